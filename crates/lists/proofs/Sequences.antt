@@ -9,7 +9,7 @@ use mathlib.Core.Logic.{_⊎_, inl, inr, ⊎-elim, _↔_}
 use lib.ListN.{length, getD, take, set, replicate, length-append, length-take, length-replicate, length-map, List·getD-append, List·getD-eq-default}
 use lib.Seq.{take-suc, take-length, getD-append-seam, getD-take, ext-getD}
 use Rattle.lists.specs.Sequence.{ticks, padded, every, chain}
-use Rattle.lists.proofs.Tests.{lt-or-le, true-left, true-right, both-true}
+use Rattle.lists.proofs.Tests.{lt-or-le, true-left, true-right, _also_}
 
 -- owning an array of structs tells the length of a `map` of its list
 pub length-mapped : (X Y : Type 0) (f : X → Y) (l : List X) (n : ℕ) → length (map f l) ≡ n → length l ≡ n
@@ -129,8 +129,8 @@ module _ {A : Type 0} (f : ℕ → A → Bool) where
     unfolding every
     every-in i [] h = refl
     every-in i (x ∷ xs) h =
-        both-true _ _ (rw add-zero at (h 0 (omega arith)))
-        (every-in (suc i) xs λ k l. let s : i + suc k ≡ suc i + k = omega arith in rw s at (h (suc k) (omega arith)))
+        (rw add-zero at (h 0 (omega arith)))
+        also (every-in (suc i) xs λ k l. let s : i + suc k ≡ suc i + k = omega arith in rw s at (h (suc k) (omega arith)))
 
     pub every-iff : (xs : List A) → (every f 0 xs ≡ true) ↔ ((k : ℕ) → k < length xs → f k (getD xs k d) ≡ true)
     every-iff xs = (λ e k h. rw zero-add at (every-out 0 xs e k h), λ h. every-in 0 xs (λ k l. rw zero-add (h k l)))
