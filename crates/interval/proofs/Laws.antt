@@ -4,7 +4,7 @@
 --     parts-count     if 2^b ≤ v + 1 < 2^(b + 1), there are at most b + 1
 -- Assumes nothing.
 use mathlib.Core.Path.{_≡_, refl, sym, ap, subst, _∙_}
-use mathlib.Core.Bool.{false}
+use mathlib.Core.Bool.{true, false}
 use mathlib.Core.Logic.{⊎-elim}
 use mathlib.Core.List.{List, [], _∷_, _++_, map}
 use Prim.Native.Nat.{ℕ, zero, suc, _+_, _-_, _*_, _%_, _^_, _≤_, _<_}
@@ -18,7 +18,7 @@ use lib.Pow.{pow-mono, pow-pos, shl-exact}
 use lib.ListN.{length, set, drop, replicate}
 use lib.Seq.{sets, sets-eq}
 use Rattle.lists.specs.Sequence.{padded, sum}
-use Rattle.lists.proofs.Tests.{lt-or-le, or-left, or-right}
+use Rattle.lists.proofs.Tests.{lt-or-le, or-left, or-right, true-or-false}
 use Rattle.interval.specs.Parts.{largestTo, top, left, partsTo, parts, splitting, badInterval}
 use Rattle.interval.specs.declared.Splitting.{Splitting}
 
@@ -243,3 +243,10 @@ splitting-is lo hi n ks e (ek, en) =
     let p = ek ∙ fill-padded (parts (hi - lo)) (parts-12 (hi - lo) (omega arith)) in
     let q : n ≡ length (parts (hi - lo)) = omega arith in
     simp (e, p, q)
+
+pub splitting-count : (lo hi : ℕ) → splitting lo hi .count ≤ 12
+unfolding splitting
+splitting-count lo hi =
+    ⊎-elim (λ (e : badInterval lo hi ≡ true). simp e (omega arith))
+    (λ (e : badInterval lo hi ≡ false). let f = interval-fits lo hi e in simp e (parts-12 (hi - lo) (omega arith)))
+    (true-or-false (badInterval lo hi))

@@ -1,0 +1,205 @@
+// Tables as bytes, for callers in other languages.
+ghost use mathlib.Core.Path.{_≡_};
+ghost use Prim.Native.Nat.{_+_, _*_, _≤_, _<_};
+ghost use lib.ListN.{length, getD};
+ghost use lib.Seq.{sets};
+ghost use Rattle.lists.specs.Sequence.{ticks};
+ghost use Rattle.table.specs.Nodes.{noTable};
+ghost use Rattle.flat.specs.Flat.{nodeByte, ruleByte, tableByte, written, byteAt, pairAt, nodeFrom, ruleFrom, unpadded, tableFrom};
+use table::Node;
+use table::Rule;
+use table::Table;
+
+fn pair(low: u8, high: u8) -> u16
+    ensures { λ r. ⌜ r ≡ low + 256 * high ⌝ }
+{
+    low as u16 + 256 * (high as u16)
+}
+
+fn pair_at(b: &[u8], at: usize) -> u16
+    requires { ⌜ at + 2 ≤ length (now b) ⌝ }
+    ensures { λ r. ⌜ r ≡ pairAt (now (b .entry)) at ⌝ }
+{
+    pair(b[at], b[at + 1])
+}
+
+fn node_from(b: &[u8], i: usize) -> Node
+    requires { ⌜ (546 ≤ length (now b)) × (i < 64) ⌝ }
+    ensures { λ r. ⌜ r ≡ nodeFrom (now (b .entry)) i ⌝ }
+{
+    let at = 2 + 8 * i;
+    let lo = pair_at(b, at + 2);
+    let hi = pair_at(b, at + 4);
+    Node {
+        kind: b[at],
+        arg: b[at + 1],
+        lo,
+        hi,
+        left: b[at + 6],
+        right: b[at + 7],
+    }
+}
+
+fn rule_from(b: &[u8], i: usize) -> Rule
+    requires { ⌜ (546 ≤ length (now b)) × (i < 8) ⌝ }
+    ensures { λ r. ⌜ r ≡ ruleFrom (now (b .entry)) i ⌝ }
+{
+    let at = 514 + 4 * i;
+    let name = pair_at(b, at);
+    Rule {
+        name,
+        watched: b[at + 2],
+    }
+}
+
+fn no_node() -> Node
+    ensures { λ r. ⌜ r ≡ record { kind = 0; arg = 0; lo = 0; hi = 0; left = 0; right = 0 } ⌝ }
+{
+    Node {
+        kind: 0,
+        arg: 0,
+        lo: 0,
+        hi: 0,
+        left: 0,
+        right: 0,
+    }
+}
+
+fn no_rule() -> Rule
+    ensures { λ r. ⌜ r ≡ record { name = 0; watched = 0 } ⌝ }
+{
+    Rule {
+        name: 0,
+        watched: 0,
+    }
+}
+
+fn nodes_from(b: &[u8]) -> [Node; 64]
+    requires { ⌜ 546 ≤ length (now b) ⌝ }
+    ensures { λ r. ⌜ r ≡ ticks (nodeFrom (now (b .entry))) 64 ⌝ }
+{
+    let none = no_node();
+    let mut nodes = [none; 64];
+    for i in 0..64 {
+        nodes[i] = node_from(b, i);
+    }
+    nodes
+}
+
+fn rules_from(b: &[u8]) -> [Rule; 8]
+    requires { ⌜ 546 ≤ length (now b) ⌝ }
+    ensures { λ r. ⌜ r ≡ ticks (ruleFrom (now (b .entry))) 8 ⌝ }
+{
+    let none = no_rule();
+    let mut rules = [none; 8];
+    for i in 0..8 {
+        rules[i] = rule_from(b, i);
+    }
+    rules
+}
+
+fn is_unpadded(b: &[u8]) -> bool
+    requires { ⌜ 546 ≤ length (now b) ⌝ }
+    ensures { λ r. ⌜ r ≡ unpadded (now (b .entry)) ⌝ }
+{
+    (b[517] == 0)
+        & (b[521] == 0)
+        & (b[525] == 0)
+        & (b[529] == 0)
+        & (b[533] == 0)
+        & (b[537] == 0)
+        & (b[541] == 0)
+        & (b[545] == 0)
+}
+
+fn no_table() -> Table
+    ensures { λ r. ⌜ r ≡ noTable ⌝ }
+{
+    let node = no_node();
+    let rule = no_rule();
+    let nodes = [node; 64];
+    let rules = [rule; 8];
+    Table {
+        nodes,
+        node_count: 0,
+        rules,
+        rule_count: 0,
+    }
+}
+
+// The table that the bytes hold, and 'no table' where they are no table's.
+pub fn read_table(b: &[u8]) -> Table
+    ensures { λ r. ⌜ r ≡ tableFrom (now (b .entry)) ⌝ }
+{
+    if b.len() < 546 {
+        return no_table();
+    }
+    if !is_unpadded(b) {
+        return no_table();
+    }
+    let nodes = nodes_from(b);
+    let rules = rules_from(b);
+    Table {
+        nodes,
+        node_count: b[0] as usize,
+        rules,
+        rule_count: b[1] as usize,
+    }
+}
+
+fn node_byte(n: Node, k: usize) -> u8
+    requires { ⌜ k < 8 ⌝ }
+    ensures { λ r. ⌜ r ≡ nodeByte n k ⌝ }
+{
+    let bytes = [
+        n.kind,
+        n.arg,
+        (n.lo % 256) as u8,
+        (n.lo / 256) as u8,
+        (n.hi % 256) as u8,
+        (n.hi / 256) as u8,
+        n.left,
+        n.right,
+    ];
+    bytes[k]
+}
+
+fn rule_byte(r: Rule, k: usize) -> u8
+    requires { ⌜ k < 4 ⌝ }
+    ensures { λ b. ⌜ b ≡ ruleByte r k ⌝ }
+{
+    let bytes = [(r.name % 256) as u8, (r.name / 256) as u8, r.watched, 0];
+    bytes[k]
+}
+
+// The byte of a table at place j.
+fn table_byte(t: Table, j: usize) -> u8
+    requires { ⌜ j < 546 ⌝ }
+    ensures { λ r. ⌜ r ≡ tableByte t j ⌝ }
+{
+    if j < 2 {
+        let counts = [(t.node_count % 256) as u8, (t.rule_count % 256) as u8];
+        return counts[j];
+    }
+    if j < 514 {
+        let k = j - 2;
+        let at = k / 8;
+        return node_byte(t.nodes[at], k % 8);
+    }
+    let k = j - 514;
+    let at = k / 4;
+    rule_byte(t.rules[at], k % 4)
+}
+
+// The table's bytes, into the first 546 places of a buffer that has them.
+pub fn write_table(t: Table, out: &mut [u8])
+    ensures { λ _. ⌜ now (out .exit) ≡ written t (now (out .entry)) ⌝ }
+{
+    if out.len() < 546 {
+        return;
+    }
+    for j in 0..546 {
+        let x = table_byte(t, j);
+        out[j] = x;
+    }
+}
