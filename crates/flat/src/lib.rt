@@ -1,11 +1,9 @@
 // Tables as bytes, for callers in other languages.
 ghost use mathlib.Core.Path.{_≡_};
 ghost use Prim.Native.Nat.{_+_, _*_, _≤_, _<_};
-ghost use lib.ListN.{length, getD};
-ghost use lib.Seq.{sets};
+ghost use lib.ListN.{length};
 ghost use Rattle.lists.specs.Sequence.{ticks};
-ghost use Rattle.table.specs.Nodes.{noTable};
-ghost use Rattle.flat.specs.Flat.{nodeByte, ruleByte, tableByte, written, byteAt, pairAt, nodeFrom, ruleFrom, unpadded, tableFrom};
+ghost use Rattle.flat.specs.Flat.{nodeByte, ruleByte, tableByte, written, pairAt, nodeFrom, ruleFrom, unpadded, tableFrom};
 use table::Node;
 use table::Rule;
 use table::Table;
@@ -112,30 +110,15 @@ fn is_unpadded(b: &[u8]) -> bool
         & (b[545] == 0)
 }
 
-fn no_table() -> Table
-    ensures { λ r. ⌜ r ≡ noTable ⌝ }
-{
-    let node = no_node();
-    let rule = no_rule();
-    let nodes = [node; 64];
-    let rules = [rule; 8];
-    Table {
-        nodes,
-        node_count: 0,
-        rules,
-        rule_count: 0,
-    }
-}
-
 // The table that the bytes hold, and 'no table' where they are no table's.
 pub fn read_table(b: &[u8]) -> Table
     ensures { λ r. ⌜ r ≡ tableFrom (now (b .entry)) ⌝ }
 {
     if b.len() < 546 {
-        return no_table();
+        return table::no_table();
     }
     if !is_unpadded(b) {
-        return no_table();
+        return table::no_table();
     }
     let nodes = nodes_from(b);
     let rules = rules_from(b);

@@ -1,1 +1,4 @@
 pub mod MarkedRows
+pub mod Stream
+pub mod Listed
+pub mod ThirdDemand

@@ -1,0 +1,478 @@
+-- Each sound table has a book of bytes that reads as it: a table is sound exactly where some book yields it. Assumes nothing.
+use mathlib.Core.Path.{_≡_, refl, sym, ap, subst, _∙_}
+use mathlib.Core.Bool.{Bool, true, false, true≢false, false≢true}
+use mathlib.Core.List.{List, [], _∷_, _++_, append-assoc, append-nil}
+use mathlib.Core.Logic.{_↔_, ⊎-elim}
+use Prim.Native.Nat.{ℕ, zero, suc, _+_, _-_, _*_, _≤_, _<_}
+use native.Mathlib.Nat.{add-suc, add-zero, zero-add}
+use native.Mathlib.Omega.{arith}
+use borrow.Author.Tests.{ltb-true, leb-true, leb-false, eqb-false, lt-ltb, le-ltb, ne-eqb, le-leb, lt-leb}
+use lib.Dec.{ltb, leb, eqb}
+use lib.ListN.{length, getD, take, length-take}
+use lib.Seq.{take-suc}
+use Rattle.lists.specs.Choice.{pick}
+use Rattle.lists.specs.Sequence.{among, ticks, padded}
+use Rattle.lists.proofs.Tests.{lt-or-le}
+use Rattle.lists.proofs.Sequences.{length-ticks, getD-ticks, padded-is}
+use Rattle.mltl.specs.Mltl.{delay}
+use Rattle.table.specs.Nodes.{opOf, usesOf, noNode, noRule, nodeAt, ruleAt, formulas, delayOf, delays}
+use Rattle.table.specs.Sound.{NodeFits, RuleFits, Sound}
+use Rattle.table.specs.declared.Node.{Node}
+use Rattle.table.specs.declared.Table.{Table}
+use Rattle.table.proofs.Delays.{formula-at, delay-of}
+use Rattle.book.specs.declared.Entry.{Entry}
+use Rattle.book.specs.declared.Reading.{Reading}
+use Rattle.book.specs.Entries.{Bytes, entryOf, isNode, isRule, usesIn}
+use Rattle.book.specs.Reading.{nodesIn, rulesIn, nodeOf, ruleOf, nodes, rules, tableOf, accepted, reading}
+use Rattle.book.specs.Reading as read
+use Rattle.book.specs.Keeps.{Head, Linked, Kept, Along, over, on, Keeps}
+use Rattle.book.specs.Writing.{bytes, headEntry, nodeEntry, ruleEntry, many, after, entryFor, bookOf, Yielded}
+use Rattle.book.proofs.Tests.{node-no-rule}
+use Rattle.book.proofs.Among.{among-not, filter-in, filter-out, collect-in, collect-out}
+use Rattle.book.proofs.Stands.{nodeIn, ruleIn}
+use Rattle.book.proofs.Kept.{node-iff, earlier-iff, rule-among}
+use Rattle.book.proofs.Accepts.{keeps-accepted, head-no-rule}
+use Rattle.book.proofs.Sound.{node-uses, uses-arg, accepted-sound}
+use Rattle.book.proofs.Written.{entry-of, length-bytes, listed, listed-none, listed-more, length-listed, ups, ones, first-up, among-ups, among-ones, operand-place, Which, which}
+
+module _ (t : Table) (z : Sound t) where
+  n : ℕ
+  n = t .«node_count»
+
+  m : ℕ
+  m = t .«rule_count»
+
+  s : List ℕ
+  s = bookOf t
+
+  -- ---- the records
+  ent : (r : ℕ) → r ≤ many t → entryOf s r ≡ entryFor t r
+  unfolding s bookOf
+  ent r h = entry-of (ticks (entryFor t) (suc (many t))) r ∙ getD-ticks (entryFor t) (suc (many t)) r (headEntry 0) (omega arith)
+
+  size : length s ≡ 12 * suc (many t)
+  unfolding s bookOf
+  size = length-bytes (ticks (entryFor t) (suc (many t))) ∙ ap (λ l. 12 * l) (length-ticks (entryFor t) (suc (many t)))
+
+  ent-head : entryOf s 0 ≡ headEntry (after t 0)
+  ent-head = ent 0 (omega arith)
+
+  ent-node : (k : ℕ) → k < n → entryOf s (suc k) ≡ nodeEntry (nodeAt t k) (after t (suc k))
+  unfolding n
+  ent-node k h =
+      let d : suc k - 1 ≡ k = omega arith in
+      ent (suc k) (omega arith) ∙ rw (ne-eqb (suc k) 0 (omega arith), le-leb (suc k) (t .«node_count») (omega arith), d)
+
+  ent-rule : (j : ℕ) → j < m → entryOf s (suc (n + j)) ≡ ruleEntry (ruleAt t j) (after t (suc (n + j)))
+  unfolding n m
+  ent-rule j h =
+      let d : suc (t .«node_count» + j) - 1 - t .«node_count» ≡ j = omega arith in
+      ent (suc (t .«node_count» + j)) (omega arith)
+      ∙ rw (ne-eqb (suc (t .«node_count» + j)) 0 (omega arith), lt-leb (suc (t .«node_count» + j)) (t .«node_count») (omega arith), d)
+
+  -- ---- what is known of nodes and rules
+  fits : (k : ℕ) → k < n → NodeFits k (nodeAt t k)
+  unfolding n
+  fits k h = z .node k h
+
+  ruled : (j : ℕ) → j < m → RuleFits n (ruleAt t j)
+  unfolding n m
+  ruled j h = z .rule j h
+
+  other : (i j : ℕ) → i < j → j < m → ¬ (ruleAt t i .name ≡ ruleAt t j .name)
+  unfolding m
+  other i j l h = z .distinct i j l h
+
+  few-rules : m ≤ 8
+  unfolding m
+  few-rules = z .few-rules
+
+  in-many : (j : ℕ) → j < m → suc (n + j) ≤ many t
+  unfolding n m
+  in-many j h = omega arith
+
+  -- the fields that the kind of a node uses
+  used : (k : ℕ) → k < n → usesOf (opOf (nodeAt t k .kind)) ≡ usesIn (nodeAt t k .kind)
+  used k h = node-uses (nodeAt t k .kind) (fits k h .node)
+
+  node-short : (k : ℕ) → k < n → delayOf (delays (take k (t .nodes))) (nodeAt t k) ≤ 4095
+  unfolding n
+  node-short k h =
+      let l : k < length (t .nodes) = omega (arith, z .few-nodes, z .places) in
+      subst (λ (d : ℕ). d ≤ 4095) (ap delay (formula-at (t .nodes) k l) ∙ delay-of (formulas (take k (t .nodes))) (nodeAt t k)) (z .short k h)
+
+  -- ---- the lists of the first c records: i nodes, and j rules
+  abbrev ruleNumber : ℕ → ℕ
+  ruleNumber q = suc (n + q)
+
+  record Lists (c i j : ℕ) : Type 0 where
+    nodes-in : nodesIn s (ups c) ≡ ones i
+    nodes-are : nodes s (ups c) ≡ take i (t .nodes)
+    rules-in : rulesIn s (ups c) ≡ listed ruleNumber j
+    rules-are : rules s (ups c) ≡ take j (t .rules)
+
+  head-kind : entryOf s 0 .kind ≡ 0
+  head-kind = ap (λ (e : Entry). e .kind) ent-head
+
+  -- a node more
+  module _ (k : ℕ) (h : k < n) (l : Lists (suc k) k 0) where
+    is-node : read.nodeAt s (suc k) ≡ true
+    is-node =
+        ap (λ (x : Entry). isNode (x .kind)) (ent-node k h)
+        ∙ node-iff (nodeAt t k .kind) .1 (record { low = fits k h .known; high = fits k h .node })
+
+    node-from : nodeOf (nodesIn s (ups (suc k))) (nodeEntry (nodeAt t k) (after t (suc k))) ≡ nodeAt t k
+    node-from =
+        let f = fits k h in
+        let u = used k h in
+        rw (
+          l .nodes-in,
+          operand-place (usesIn (nodeAt t k .kind) .left) k (nodeAt t k .left) (rw u at (f .left .limited)) (rw u at (f .left .unused)),
+          operand-place (usesIn (nodeAt t k .kind) .right) k (nodeAt t k .right) (rw u at (f .right .limited)) (rw u at (f .right .unused)),
+        )
+
+    node-is : nodeIn s (ups (suc k)) (suc k) ≡ nodeAt t k
+    node-is = ap (nodeOf (nodesIn s (ups (suc k)))) (ent-node k h) ∙ node-from
+
+    lists-more : Lists (suc (suc k)) (suc k) 0
+    unfolding n
+    lists-more =
+        let b : k < length (t .nodes) = omega (arith, z .few-nodes, z .places) in
+        let no-rule : read.ruleAt s (suc k) ≡ false = node-no-rule (entryOf s (suc k) .kind) is-node in
+        record {
+          nodes-in = rw (listed-more (λ i. i) (suc k), listed-more suc k) (filter-in (read.nodeAt s) (ups (suc k)) (suc k) is-node ∙ rw (l .nodes-in));
+          nodes-are =
+              rw (listed-more (λ i. i) (suc k))
+              (collect-in (read.nodeAt s) (nodeIn s) (ups (suc k)) (suc k) is-node ∙ rw (l .nodes-are, node-is, take-suc (t .nodes) k noNode b));
+          rules-in = rw (listed-more (λ i. i) (suc k)) (filter-out (read.ruleAt s) (ups (suc k)) (suc k) no-rule ∙ l .rules-in);
+          rules-are = rw (listed-more (λ i. i) (suc k)) (collect-out (read.ruleAt s) (ruleIn s) (ups (suc k)) (suc k) no-rule ∙ l .rules-are);
+        }
+
+  lists-node : (k : ℕ) → k ≤ n → Lists (suc k) k 0
+  lists-node zero h =
+      let a : read.nodeAt s 0 ≡ false = rw head-kind in
+      let b : read.ruleAt s 0 ≡ false = rw head-kind in
+      record {
+        nodes-in = rw (first-up, a, listed-none suc);
+        nodes-are = rw (first-up, a);
+        rules-in = rw (first-up, b, listed-none ruleNumber);
+        rules-are = rw (first-up, b);
+      }
+  lists-node (suc k) h = lists-more k (omega arith) (lists-node k (omega arith))
+
+  -- a rule more
+  module _ (j : ℕ) (h : j < m) (l : Lists (suc (n + j)) n j) where
+    no-node : read.nodeAt s (suc (n + j)) ≡ false
+    no-node = ap (λ (x : Entry). isNode (x .kind)) (ent-rule j h)
+
+    is-rule : read.ruleAt s (suc (n + j)) ≡ true
+    is-rule = ap (λ (x : Entry). isRule (x .kind)) (ent-rule j h)
+
+    rule-is : ruleIn s (ups (suc (n + j))) (suc (n + j)) ≡ ruleAt t j
+    rule-is =
+        ap (ruleOf (nodesIn s (ups (suc (n + j))))) (ent-rule j h)
+        ∙ rw (l .nodes-in, operand-place true n (ruleAt t j .watched) (λ u. ruled j h .watched) (λ u. absurd (true≢false u)))
+
+    lists-rule-more : Lists (suc (suc (n + j))) n (suc j)
+    unfolding m
+    lists-rule-more =
+        let b : j < length (t .rules) = omega (arith, z .few-rules, z .rule-places) in
+        let c = suc (n + j) in
+        record {
+          nodes-in = rw (listed-more (λ i. i) c) (filter-out (read.nodeAt s) (ups c) c no-node ∙ l .nodes-in);
+          nodes-are = rw (listed-more (λ i. i) c) (collect-out (read.nodeAt s) (nodeIn s) (ups c) c no-node ∙ l .nodes-are);
+          rules-in = rw (listed-more (λ i. i) c, listed-more ruleNumber j) (filter-in (read.ruleAt s) (ups c) c is-rule ∙ rw (l .rules-in));
+          rules-are =
+              rw (listed-more (λ i. i) c)
+              (collect-in (read.ruleAt s) (ruleIn s) (ups c) c is-rule ∙ rw (l .rules-are, rule-is, take-suc (t .rules) j noRule b));
+        }
+
+  lists-rule : (j : ℕ) → j ≤ m → Lists (suc (n + j)) n j
+  lists-rule zero h = rw add-zero (lists-node n (omega arith))
+  lists-rule (suc j) h = rw add-suc (lists-rule-more j (omega arith) (lists-rule j (omega arith)))
+
+  -- ---- each record keeps the rules
+  linked-on : (k : ℕ) → k ≤ many t → Linked s (ups k ++ (k ∷ [])) (after t k)
+  linked-on k h = go (ltb k (many t)) refl
+    where
+      go : (b : Bool) → ltb k (many t) ≡ b → Linked s (ups k ++ (k ∷ [])) (pick b (suc k) 0)
+      go true e = record {
+        inside = λ i. omega (arith, size, ltb-true k (many t) e);
+        new = λ i.
+            among-not (suc k) (ups k ++ (k ∷ []))
+            (ap (among (suc k)) (sym (listed-more (λ i. i) k)) ∙ among-ups (suc k) (suc k) ∙ le-ltb (suc k) (suc k) (omega arith));
+      }
+      go false e = record { inside = λ i. absurd (i refl); new = λ i. absurd (i refl) }
+
+  node-keeps : (k : ℕ) → k < n → Kept s (ups (suc k)) (suc k) (nodeEntry (nodeAt t k) (after t (suc k)))
+  unfolding n
+  node-keeps k h =
+      let f = fits k h in
+      let u = used k h in
+      let l = lists-node k (omega arith) in
+      let x = nodeAt t k in
+      record {
+        linked = linked-on (suc k) (omega arith);
+        formed = record {
+          low = f .known;
+          high = omega (arith, f .node);
+          arg = rw u at (f .arg .unused);
+          lo = λ v. let w : x .hi ≡ 0 = (rw u at (f .interval .unused)) v in omega (arith, f .ordered);
+          hi = rw u at (f .interval .unused);
+          left = λ v. rw v;
+          right = λ v. rw v;
+          tail0 = refl;
+          tail1 = refl;
+          tail2 = refl;
+        };
+        signal = λ v. omega (arith, f .arg .limited (uses-arg (x .kind) ∙ rw v));
+        name = λ v. absurd (omega (arith, f .node));
+        ordered = f .ordered;
+        limited = limited (x .hi) (usesOf (opOf (x .kind)) .interval) (f .interval .limited) (f .interval .unused);
+        left = λ v. earlier-iff s (ups (suc k)) _ .0 (rw (v, l .nodes-in) (among-ones (x .left) k ∙ lt-ltb (x .left) k ((rw u at (f .left .limited)) v)));
+        right = λ v. earlier-iff s (ups (suc k)) _ .0 (rw (v, l .nodes-in) (among-ones (x .right) k ∙ lt-ltb (x .right) k ((rw u at (f .right .limited)) v)));
+        node-room = λ v. rw (l .nodes-in, length-listed suc k) (omega (arith, z .few-nodes));
+        rule-room = λ v. absurd (omega (arith, f .node));
+        delay = λ v. subst (λ (d : ℕ). d ≤ 4095)
+            (sym (ap (λ (y : Node). delayOf (delays (nodes s (ups (suc k)))) y) (node-from k h l) ∙ ap (λ (y : List Node). delayOf (delays y) x) (l .nodes-are)))
+            (node-short k h);
+        own = λ v q i j p. omega (arith, f .node);
+      }
+    where
+      limited : (hi : ℕ) (b : Bool) → (b ≡ true → hi < 4096) → (b ≡ false → hi ≡ 0) → hi ≤ 4095
+      limited hi true p q = omega (arith, p refl)
+      limited hi false p q = omega (arith, q refl)
+
+  rule-keeps : (j : ℕ) → j < m → Kept s (ups (suc (n + j))) (suc (n + j)) (ruleEntry (ruleAt t j) (after t (suc (n + j))))
+  unfolding usesIn
+  rule-keeps j h =
+      let f = ruled j h in
+      let l = lists-rule j (omega arith) in
+      let x = ruleAt t j in
+      record {
+        linked = linked-on (suc (n + j)) (in-many j h);
+        formed = record {
+          low = omega arith;
+          high = omega arith;
+          arg = λ u. absurd (true≢false u);
+          lo = λ u. refl;
+          hi = λ u. refl;
+          left = λ u. absurd (true≢false u);
+          right = λ u. refl;
+          tail0 = refl;
+          tail1 = refl;
+          tail2 = refl;
+        };
+        signal = λ u. absurd (omega arith);
+        name = λ u. f .named;
+        ordered = omega arith;
+        limited = omega arith;
+        left = λ u. earlier-iff s (ups (suc (n + j))) _ .0 (rw (l .nodes-in) (among-ones (x .watched) n ∙ lt-ltb (x .watched) n (f .watched)));
+        right = λ u. absurd (false≢true u);
+        node-room = λ u. absurd (omega (arith, u .high));
+        rule-room = λ u. rw (l .rules-in, length-listed ruleNumber j) (omega (arith, few-rules));
+        delay = λ u. absurd (omega (arith, u .high));
+        own = λ u q i k p. apart q (which ruleNumber j q (rw (l .rules-in) at (rule-among s (ups (suc (n + j))) q i k))) p;
+      }
+    where
+      apart : (q : ℕ) → Which ruleNumber j q → ¬ (entryOf s q .arg ≡ ruleAt t j .name)
+      apart q w p =
+          other (w .at) j (w .small) h
+          (sym (ap (λ (x : Entry). x .arg) (ent-rule (w .at) (omega (arith, w .small)))) ∙ ap (λ (x : ℕ). entryOf s x .arg) (sym (w .is)) ∙ p)
+
+  -- ---- the chain: 1, 2, 3, ..
+  node-kept : (k : ℕ) → k < n → Kept s (ups (suc k)) (suc k) (entryOf s (suc k))
+  node-kept k h = subst (Kept s (ups (suc k)) (suc k)) (sym (ent-node k h)) (node-keeps k h)
+
+  rule-kept : (j : ℕ) → j < m → Kept s (ups (suc (n + j))) (suc (n + j)) (entryOf s (suc (n + j)))
+  rule-kept j h = subst (Kept s (ups (suc (n + j))) (suc (n + j))) (sym (ent-rule j h)) (rule-keeps j h)
+
+  each-kept : (k : ℕ) → k < many t → Kept s (ups (suc k)) (suc k) (entryOf s (suc k))
+  unfolding n m
+  each-kept k h =
+      ⊎-elim (node-kept k)
+      (λ p.
+      let i : k ≡ n + (k - n) = omega arith in
+      subst (λ (x : ℕ). Kept s (ups (suc x)) (suc x) (entryOf s (suc x))) (sym i) (rule-kept (k - n) (omega arith)))
+      (lt-or-le k n)
+
+  each-next : (k : ℕ) → k < many t → entryOf s (suc k) .next ≡ after t (suc k)
+  each-next k h = ap (λ (e : Entry). e .next) (ent (suc k) (omega arith)) ∙ go (eqb (suc k) 0) (leb (suc k) (t .«node_count»))
+    where
+      go : (a b : Bool)
+          → pick a (headEntry (after t (suc k))) (pick b (nodeEntry (nodeAt t (suc k - 1)) (after t (suc k))) (ruleEntry (ruleAt t (suc k - 1 - t .«node_count»)) (after t (suc k)))) .next
+          ≡ after t (suc k)
+      go true b = refl
+      go false true = refl
+      go false false = refl
+
+  from : ℕ → ℕ → List ℕ
+  from k zero = []
+  from k (suc d) = suc k ∷ from (suc k) d
+
+  goes : (d k : ℕ) → k + d ≡ many t → Along s (ups (suc k)) (after t k) (from k d)
+  unfolding from
+  goes zero k h = rw (le-ltb k (many t) (omega arith)) over
+  goes (suc d) k h =
+      let b : k < many t = omega arith in
+      let ne : ¬ (suc k ≡ 0) = λ p. omega arith in
+      rw (lt-ltb k (many t) b)
+      (on {rest = from (suc k) d} ne (each-kept k b) (rw (each-next k b, ← (listed-more (λ i. i) (suc k))) (goes d (suc k) (omega arith))))
+
+  all-ups : (d k : ℕ) → ups (suc k) ++ from k d ≡ ups (suc (k + d))
+  unfolding from
+  all-ups zero k = rw (append-nil, add-zero)
+  all-ups (suc d) k =
+      let e : suc k + d ≡ k + suc d = omega arith in
+      sym (append-assoc (ups (suc k)) (suc k ∷ []) (from (suc k) d))
+      ∙ ap (λ l. l ++ from (suc k) d) (sym (listed-more (λ i. i) (suc k))) ∙ all-ups d (suc k) ∙ ap (λ (x : ℕ). ups (suc x)) e
+
+  -- ---- the table of the chain
+  last : Lists (suc (many t)) n m
+  unfolding n m
+  last = lists-rule m (omega arith)
+
+  table-back : tableOf s (ups (suc (many t))) ≡ t
+  unfolding n m
+  table-back =
+      let a : length (take n (t .nodes)) ≡ t .«node_count» = simp length-take (omega (arith, z .few-nodes, z .places)) in
+      let b : length (take m (t .rules)) ≡ t .«rule_count» = simp length-take (omega (arith, z .few-rules, z .rule-places)) in
+      let c : padded noNode 64 (take n (t .nodes)) ≡ t .nodes = padded-is noNode n 64 (t .nodes) (z .few-nodes) (z .places) (z .free-node) in
+      let d : padded noRule 8 (take m (t .rules)) ≡ t .rules = padded-is noRule m 8 (t .rules) (z .few-rules) (z .rule-places) (z .free-rule) in
+      rw (last .nodes-are, last .rules-are, c, d, a, b)
+
+  whole-chain : 0 ∷ from 0 (many t) ≡ ups (suc (many t))
+  whole-chain = ap (λ l. l ++ from 0 (many t)) (sym first-up) ∙ all-ups (many t) 0 ∙ ap (λ (x : ℕ). ups (suc x)) (zero-add (many t))
+
+  head-linked : Linked s (0 ∷ []) (after t 0)
+  head-linked = subst (λ l. Linked s l (after t 0)) (ap (λ l. l ++ (0 ∷ [])) (listed-none (λ i. i))) (linked-on 0 (omega arith))
+
+  head-along : Along s (0 ∷ []) (after t 0) (from 0 (many t))
+  head-along = subst (λ l. Along s l (after t 0) (from 0 (many t))) first-up (goes (many t) 0 (zero-add (many t)))
+
+  keeps : Keeps s
+  unfolding n m
+  keeps =
+      let h : Head (entryOf s 0) = rw ent-head (record { kind = refl; arg = refl; lo = refl; hi = refl; left = refl; right = refl; tail0 = refl; tail1 = refl; tail2 = refl }) in
+      let e : entryOf s 0 .next ≡ after t 0 = ap (λ (x : Entry). x .next) ent-head in
+      let b : length (take m (t .rules)) ≡ t .«rule_count» = simp length-take (omega (arith, z .few-rules, z .rule-places)) in
+      let r : length (rules s (0 ∷ from 0 (many t))) ≡ t .«rule_count» = ap (λ (l : List ℕ). length (rules s l)) whole-chain ∙ rw (last .rules-are) b in
+      record {
+        size = record { records = suc (many t); bytes = size; some = omega arith; few = omega (arith, z .few-nodes, z .few-rules) };
+        head = h;
+        linked = rw e head-linked;
+        chain = from 0 (many t);
+        along = rw e head-along;
+        ruled = omega (arith, head-no-rule s h (from 0 (many t)), z .some-rule);
+      }
+
+  book-reads : reading s ≡ accepted t
+  unfolding keeps
+  book-reads = keeps-accepted s keeps ∙ ap accepted (ap (tableOf s) whole-chain ∙ table-back)
+
+-- ---- the book is bytes
+record Small (e : Entry) : Type 0 where
+  kind : e .kind < 256
+  arg : e .arg < 256
+  lo : e .lo < 65536
+  hi : e .hi < 65536
+  left : e .left < 256
+  right : e .right < 256
+  next : e .next < 256
+  tail0 : e .tail0 < 256
+  tail1 : e .tail1 < 256
+  tail2 : e .tail2 < 256
+
+infixr 5 _then_
+_then_ : {x : ℕ} {s : List ℕ} → x < 256 → Bytes s → Bytes (x ∷ s)
+_then_ {x} {s} h b = record { byte = go }
+  where
+    go : (i : ℕ) → i < length (x ∷ s) → getD (x ∷ s) i 0 < 256
+    go zero l = h
+    go (suc i) l = b .byte i (omega arith)
+
+small-bytes : (es : List Entry) → ((r : ℕ) → r < length es → Small (getD es r (headEntry 0))) → Bytes (bytes es)
+small-bytes [] h = record { byte = λ i l. omega arith }
+small-bytes (e ∷ es) h =
+    let x = h 0 (omega arith) in
+    x .kind then x .arg then omega arith then omega (arith, x .lo) then omega arith then omega (arith, x .hi)
+    then x .left then x .right then x .next then x .tail0 then x .tail1 then x .tail2 then small-bytes es (λ r l. h (suc r) (omega arith))
+
+after-small : (t : Table) (k : ℕ) → many t ≤ 72 → after t k < 256
+after-small t k h = go (ltb k (many t)) refl
+  where
+    go : (b : Bool) → ltb k (many t) ≡ b → pick b (suc k) 0 < 256
+    go true e = omega (arith, ltb-true k (many t) e)
+    go false e = omega arith
+
+operand-small : (b : Bool) (u : ℕ) → (b ≡ true → u < 64) → pick b (suc u) 0 < 256
+operand-small true u h = omega (arith, h refl)
+operand-small false u h = omega arith
+
+signal-small : (b : Bool) (a : ℕ) → (b ≡ true → a < 32) → (b ≡ false → a ≡ 0) → a < 256
+signal-small true a p q = omega (arith, p refl)
+signal-small false a p q = omega (arith, q refl)
+
+module _ (t : Table) (z : Sound t) where
+  entry-small : (r : ℕ) → r ≤ many t → Small (entryFor t r)
+  unfolding n
+  entry-small r h = go (eqb r 0) refl (leb r (t .«node_count»)) refl
+    where
+      to : after t r < 256
+      to = after-small t r (omega (arith, z .few-nodes, z .few-rules))
+
+      go : (a : Bool) → eqb r 0 ≡ a → (b : Bool) → leb r (t .«node_count») ≡ b
+          → Small (pick a (headEntry (after t r)) (pick b (nodeEntry (nodeAt t (r - 1)) (after t r)) (ruleEntry (ruleAt t (r - 1 - t .«node_count»)) (after t r))))
+      go true e b f = record { kind = omega arith; arg = omega arith; lo = omega arith; hi = omega arith; left = omega arith; right = omega arith; next = to; tail0 = omega arith; tail1 = omega arith; tail2 = omega arith }
+      go false e true f =
+          let q : r - 1 < t .«node_count» = omega (arith, eqb-false r 0 e, leb-true r (t .«node_count») f) in
+          let y = z .node (r - 1) q in
+          let x = nodeAt t (r - 1) in
+          let k = node-keeps t z (r - 1) q in
+          record {
+            kind = omega (arith, y .node);
+            arg = signal-small (usesOf (opOf (x .kind)) .arg) (x .arg) (y .arg .limited) (y .arg .unused);
+            lo = omega (arith, k .ordered, k .limited);
+            hi = omega (arith, k .limited);
+            left = operand-small (usesIn (x .kind) .left) (x .left) (λ u. omega (arith, (rw (node-uses (x .kind) (y .node)) at (y .left .limited)) u, z .few-nodes));
+            right = operand-small (usesIn (x .kind) .right) (x .right) (λ u. omega (arith, (rw (node-uses (x .kind) (y .node)) at (y .right .limited)) u, z .few-nodes));
+            next = to;
+            tail0 = omega arith;
+            tail1 = omega arith;
+            tail2 = omega arith;
+          }
+      go false e false f =
+          let q : r - 1 - t .«node_count» < t .«rule_count» = omega (arith, leb-false r (t .«node_count») f) in
+          let y = z .rule (r - 1 - t .«node_count») q in
+          record {
+            kind = omega arith;
+            arg = omega (arith, y .byte);
+            lo = omega arith;
+            hi = omega arith;
+            left = omega (arith, y .watched, z .few-nodes);
+            right = omega arith;
+            next = to;
+            tail0 = omega arith;
+            tail1 = omega arith;
+            tail2 = omega arith;
+          }
+
+-- THE LAWS: the book of a sound table is bytes, and reads as the table
+pub sound-bytes : (t : Table) → Sound t → Bytes (bookOf t)
+unfolding bookOf
+sound-bytes t z =
+    small-bytes (ticks (entryFor t) (suc (many t))) λ r l.
+    let b : r < suc (many t) = rw (length-ticks (entryFor t) (suc (many t))) at l in
+    rw (getD-ticks (entryFor t) (suc (many t)) r (headEntry 0) b) (entry-small t z r (omega arith))
+
+pub sound-reads : (t : Table) → Sound t → reading (bookOf t) ≡ accepted t
+unfolding s
+sound-reads t z = book-reads t z
+
+-- THE LAW: a table is sound exactly where some book of bytes yields it
+pub sound-exactly : (t : Table) → Sound t ↔ Yielded t
+sound-exactly t = (
+  λ z. record { book = bookOf t; bytes = sound-bytes t z; reads = sound-reads t z },
+  λ y.
+      subst Sound (ap (λ (x : Reading). x .table) (y .reads)) (accepted-sound (y .book) (y .bytes) (ap (λ (x : Reading). x .number) (y .reads))),
+)

@@ -1,0 +1,11 @@
+pub mod Tests
+pub mod Among
+pub mod Stands
+pub mod Going
+pub mod Kept
+pub mod Accepts
+pub mod Sound
+pub mod Written
+pub mod Complete
+pub mod Chain
+pub mod Examples

@@ -1,0 +1,85 @@
+-- The records of a book (document 01: 12 bytes each, numbered from 0), and the tests of one record by itself. An entry is what a record
+-- holds; a book is the list of its bytes.
+use Prim.Native.Nat.{ℕ, _+_, _*_, _%_, _<_}
+use mathlib.Core.Bool.{Bool, true, false, _&&_, _||_, not}
+use mathlib.Core.List.{List}
+use lib.ListN.{getD, length}
+use lib.Dec.{ltb, leb, eqb}
+use Rattle.lists.specs.Choice.{pick}
+use Rattle.table.specs.Nodes.{opOf, uses, usesOf}
+use Rattle.table.specs.declared.Uses.{Uses}
+use Rattle.book.specs.declared.Entry.{Entry}
+
+-- every element of the list is a byte
+pub record Bytes (s : List ℕ) : Type 0 where
+  pub byte : (i : ℕ) → i < length s → getD s i 0 < 256
+
+-- ---- the fields of a record
+-- a number of two bytes, the low one first
+abbrev pub joined : ℕ → ℕ → ℕ
+joined low high = low + 256 * high
+
+abbrev pub joinedAt : List ℕ → ℕ → ℕ
+joinedAt s i = joined (getD s i 0) (getD s (i + 1) 0)
+
+-- the 12 bytes from i on: kind, argument, lo, hi, left, right, next, and three that are to be zero
+abbrev pub entryFrom : List ℕ → ℕ → Entry
+entryFrom s i = record {
+  kind = getD s i 0;
+  arg = getD s (i + 1) 0;
+  lo = joinedAt s (i + 2);
+  hi = joinedAt s (i + 4);
+  left = getD s (i + 6) 0;
+  right = getD s (i + 7) 0;
+  next = getD s (i + 8) 0;
+  tail0 = getD s (i + 9) 0;
+  tail1 = getD s (i + 10) 0;
+  tail2 = getD s (i + 11) 0;
+}
+
+-- the entry of the record r
+abbrev pub entryOf : List ℕ → ℕ → Entry
+entryOf s r = entryFrom s (12 * r)
+
+-- ---- the kinds: 1 to 10 are nodes, and 11 is a rule, which uses its argument, the name, and left, what it watches
+abbrev pub isNode : ℕ → Bool
+isNode k = leb 1 k && leb k 10
+
+abbrev pub isRule : ℕ → Bool
+isRule k = eqb k 11
+
+unfoldable pub usesIn : ℕ → Uses
+usesIn k = pick (isRule k) (uses true false true false) (usesOf (opOf k))
+
+-- ---- the tests of a record by itself, each true where the book is to be refused
+-- 4: a kind that is not 1 to 11, or a field that is set and not used
+abbrev pub formedBy : Uses → Entry → Bool
+formedBy used e =
+    leb 1 (e .kind) && leb (e .kind) 11 && (used .arg || eqb (e .arg) 0) && (used .interval || (eqb (e .lo) 0 && eqb (e .hi) 0))
+    && (used .left || eqb (e .left) 0) && (used .right || eqb (e .right) 0)
+    && eqb (e .tail0) 0 && eqb (e .tail1) 0 && eqb (e .tail2) 0
+
+abbrev pub formed : Entry → Bool
+formed e = formedBy (usesIn (e .kind)) e
+
+abbrev pub badForm : Entry → Bool
+badForm e = not (formed e)
+
+-- 5: a signal above 31, or a name of 0
+abbrev pub badArg : Entry → Bool
+badArg e = (eqb (e .kind) 1 && ltb 31 (e .arg)) || (isRule (e .kind) && eqb (e .arg) 0)
+
+-- 6: lo above hi, or hi above 4,095
+abbrev pub badInterval : Entry → Bool
+badInterval e = ltb (e .hi) (e .lo) || ltb 4095 (e .hi)
+
+-- ---- the tests of the head
+-- 1: a length in bytes that is not 12 times 1 to 255
+abbrev pub badLength : ℕ → Bool
+badLength n = not (eqb (n % 12) 0 && leb 12 n && leb n 3060)
+
+-- 2: the head has a byte set that is not its next
+abbrev pub badHead : Entry → Bool
+badHead e =
+    not (eqb (e .kind) 0 && eqb (e .arg) 0 && eqb (e .lo) 0 && eqb (e .hi) 0 && eqb (e .left) 0 && eqb (e .right) 0
+    && eqb (e .tail0) 0 && eqb (e .tail1) 0 && eqb (e .tail2) 0)

@@ -1,0 +1,94 @@
+-- The rules that a book keeps, each as a statement, without an order of checks. A book is accepted exactly where it keeps them
+-- (proofs/Accepts.antt).
+use Prim.Native.Nat.{ℕ, _+_, _*_, _≤_, _<_}
+use mathlib.Core.Path.{_≡_}
+use mathlib.Core.Bool.{true, false}
+use mathlib.Core.List.{List, [], _∷_, _++_, List·Memᴰ}
+use lib.ListN.{length}
+use Rattle.table.specs.Nodes.{delayOf, delays}
+use Rattle.book.specs.declared.Entry.{Entry}
+use Rattle.book.specs.Entries.{entryOf, usesIn}
+use Rattle.book.specs.Reading.{nodesIn, rulesIn, nodeOf, nodes}
+
+-- 1: 1 to 255 records of 12 bytes
+pub record Size (n : ℕ) : Type 0 where
+  pub records : ℕ
+  pub bytes : n ≡ 12 * records
+  pub some : 1 ≤ records
+  pub few : records ≤ 255
+
+-- 2: a head is all zero but its next
+pub record Head (e : Entry) : Type 0 where
+  pub kind : e .kind ≡ 0
+  pub arg : e .arg ≡ 0
+  pub lo : e .lo ≡ 0
+  pub hi : e .hi ≡ 0
+  pub left : e .left ≡ 0
+  pub right : e .right ≡ 0
+  pub tail0 : e .tail0 ≡ 0
+  pub tail1 : e .tail1 ≡ 0
+  pub tail2 : e .tail2 ≡ 0
+
+-- 3: next is 0, or a record of the book that is none of those passed
+pub record Linked (s passed : List ℕ) (next : ℕ) : Type 0 where
+  pub inside : ¬ (next ≡ 0) → 12 * next < length s
+  pub new : ¬ (next ≡ 0) → ¬ (List·Memᴰ next passed)
+
+-- 4: a kind that is known, and no field set that it does not use
+pub record Formed (e : Entry) : Type 0 where
+  pub low : 1 ≤ e .kind
+  pub high : e .kind ≤ 11
+  pub arg : usesIn (e .kind) .arg ≡ false → e .arg ≡ 0
+  pub lo : usesIn (e .kind) .interval ≡ false → e .lo ≡ 0
+  pub hi : usesIn (e .kind) .interval ≡ false → e .hi ≡ 0
+  pub left : usesIn (e .kind) .left ≡ false → e .left ≡ 0
+  pub right : usesIn (e .kind) .right ≡ false → e .right ≡ 0
+  pub tail0 : e .tail0 ≡ 0
+  pub tail1 : e .tail1 ≡ 0
+  pub tail2 : e .tail2 ≡ 0
+
+-- a node has a kind from 1 to 10
+pub record NodeKind (k : ℕ) : Type 0 where
+  pub low : 1 ≤ k
+  pub high : k ≤ 10
+
+-- 7: q is a record before, and a node
+pub record EarlierNode (s before : List ℕ) (q : ℕ) : Type 0 where
+  pub earlier : List·Memᴰ q before
+  pub node : NodeKind (entryOf s q .kind)
+
+-- the record r holds e, and the records before it on the chain are these, the head first
+pub record Kept (s before : List ℕ) (r : ℕ) (e : Entry) : Type 0 where
+  pub linked : Linked s (before ++ (r ∷ [])) (e .next)
+  pub formed : Formed e
+  -- 5
+  pub signal : e .kind ≡ 1 → e .arg ≤ 31
+  pub name : e .kind ≡ 11 → 1 ≤ e .arg
+  -- 6
+  pub ordered : e .lo ≤ e .hi
+  pub limited : e .hi ≤ 4095
+  -- 7
+  pub left : usesIn (e .kind) .left ≡ true → EarlierNode s before (e .left)
+  pub right : usesIn (e .kind) .right ≡ true → EarlierNode s before (e .right)
+  -- 8
+  pub node-room : NodeKind (e .kind) → length (nodesIn s before) < 64
+  pub rule-room : e .kind ≡ 11 → length (rulesIn s before) < 8
+  -- 9
+  pub delay : NodeKind (e .kind) → delayOf (delays (nodes s before)) (nodeOf (nodesIn s before) e) ≤ 4095
+  -- 10: no earlier rule has the name
+  pub own : e .kind ≡ 11 → (q : ℕ) → List·Memᴰ q before → entryOf s q .kind ≡ 11 → ¬ (entryOf s q .arg ≡ e .arg)
+
+-- from the record r on, the chain goes along the records of the list, to its end, and each keeps the rules
+pub data Along (s : List ℕ) : List ℕ → ℕ → List ℕ → Type 0 where
+  over : {before : List ℕ} → Along s before 0 []
+  on : {before rest : List ℕ} {r : ℕ} → ¬ (r ≡ 0) → Kept s before r (entryOf s r)
+      → Along s (before ++ (r ∷ [])) (entryOf s r .next) rest → Along s before r (r ∷ rest)
+
+pub record Keeps (s : List ℕ) : Type 0 where
+  pub size : Size (length s)
+  pub head : Head (entryOf s 0)
+  pub linked : Linked s (0 ∷ []) (entryOf s 0 .next)
+  pub chain : List ℕ
+  pub along : Along s (0 ∷ []) (entryOf s 0 .next) chain
+  -- 11
+  pub ruled : 1 ≤ length (rulesIn s chain)

@@ -1,0 +1,145 @@
+-- What reading a book yields (document 01, The book and Refusals 1 to 11). The records of the chain are read one after the other. What
+-- is known at a record are the book s and the records `before` on the chain, the head first; a record is its number.
+use Prim.Native.Nat.{ℕ, zero, suc, _+_, _*_}
+use mathlib.Core.Bool.{Bool, _&&_, _||_, not}
+use mathlib.Core.List.{List, [], _∷_, _++_, map}
+use lib.ListN.{length}
+use lib.Dec.{ltb, leb, eqb}
+use Rattle.lists.specs.Choice.{Row, pick, _if_, first}
+use Rattle.lists.specs.Sequence.{among, padded}
+use Rattle.table.specs.Nodes.{noNode, noRule, noTable, delayOf, delays}
+use Rattle.table.specs.declared.Node.{Node}
+use Rattle.table.specs.declared.Rule.{Rule}
+use Rattle.table.specs.declared.Table.{Table}
+use Rattle.book.specs.declared.Entry.{Entry}
+use Rattle.book.specs.declared.Reading.{Reading}
+use Rattle.book.specs.Entries.{entryOf, usesIn, isNode, isRule, badForm, badArg, badInterval, badLength, badHead}
+
+-- ---- the records that are nodes, and those that are rules
+abbrev pub filter : (ℕ → Bool) → List ℕ → List ℕ
+filter p [] = []
+filter p (x ∷ xs) = pick (p x) (x ∷ filter p xs) (filter p xs)
+
+abbrev pub nodeAt : List ℕ → ℕ → Bool
+nodeAt s r = isNode (entryOf s r .kind)
+
+abbrev pub ruleAt : List ℕ → ℕ → Bool
+ruleAt s r = isRule (entryOf s r .kind)
+
+abbrev pub nodesIn : List ℕ → List ℕ → List ℕ
+nodesIn s before = filter (nodeAt s) before
+
+abbrev pub rulesIn : List ℕ → List ℕ → List ℕ
+rulesIn s before = filter (ruleAt s) before
+
+-- ---- the table: nodes in chain order, their operands as places in it; rules likewise; free places all zero
+abbrev pub index : List ℕ → ℕ → ℕ
+index [] k = 0
+index (x ∷ xs) k = pick (eqb k x) 0 (suc (index xs k))
+
+-- the place of the record k among the nodes, and 0 where it is none of them
+abbrev pub place : List ℕ → ℕ → ℕ
+place nodes k = pick (among k nodes) (index nodes k) 0
+
+-- the node, and the rule, of an entry whose operands stand among the records `nodes`
+abbrev pub nodeOf : List ℕ → Entry → Node
+nodeOf nodes e = record {
+  kind = e .kind;
+  arg = e .arg;
+  lo = e .lo;
+  hi = e .hi;
+  left = place nodes (e .left);
+  right = place nodes (e .right);
+}
+
+abbrev pub ruleOf : List ℕ → Entry → Rule
+ruleOf nodes e = record { name = e .arg; watched = place nodes (e .left) }
+
+-- f of each record that p picks, with those before it
+abbrev pub collect : {A : Type 0} → (ℕ → Bool) → (List ℕ → ℕ → A) → List ℕ → List ℕ → List A
+collect p f before [] = []
+collect p f before (r ∷ rs) =
+    pick (p r) (f before r ∷ collect p f (before ++ (r ∷ [])) rs) (collect p f (before ++ (r ∷ [])) rs)
+
+abbrev pub nodes : List ℕ → List ℕ → List Node
+nodes s chain = collect (nodeAt s) (λ before r. nodeOf (nodesIn s before) (entryOf s r)) [] chain
+
+abbrev pub rules : List ℕ → List ℕ → List Rule
+rules s chain = collect (ruleAt s) (λ before r. ruleOf (nodesIn s before) (entryOf s r)) [] chain
+
+abbrev pub tableOf : List ℕ → List ℕ → Table
+tableOf s chain = record {
+  nodes = padded noNode 64 (nodes s chain);
+  «node_count» = length (nodes s chain);
+  rules = padded noRule 8 (rules s chain);
+  «rule_count» = length (rules s chain);
+}
+
+-- ---- the tests of an entry where it stands, each true where the book is to be refused
+-- 3: next is beyond the book, or a record that is passed, the record itself among them; 0 is the end
+abbrev pub linkFault : List ℕ → List ℕ → Entry → Bool
+linkFault s passed e = not (eqb (e .next) 0) && (leb (length s) (12 * e .next) || among (e .next) passed)
+
+-- 7: an operand, or what a rule watches, is no earlier node
+abbrev pub operandFault : List ℕ → Entry → Bool
+operandFault nodes e =
+    (usesIn (e .kind) .left && not (among (e .left) nodes)) || (usesIn (e .kind) .right && not (among (e .right) nodes))
+
+-- 8: the 65th node, or the 9th rule
+abbrev pub countFault : List ℕ → List ℕ → Entry → Bool
+countFault s before e =
+    (isNode (e .kind) && leb 64 (length (nodesIn s before))) || (isRule (e .kind) && leb 8 (length (rulesIn s before)))
+
+-- 9: a node's delay is above 4,095
+abbrev pub delayFault : List ℕ → List ℕ → Entry → Bool
+delayFault s before e = isNode (e .kind) && ltb 4095 (delayOf (delays (nodes s before)) (nodeOf (nodesIn s before) e))
+
+-- 10: an earlier rule has the name
+abbrev pub nameFault : List ℕ → List ℕ → Entry → Bool
+nameFault s before e = isRule (e .kind) && among (e .arg) (map (λ q. entryOf s q .arg) (rulesIn s before))
+
+-- the rows of document 01's table that can fit the record r, which holds e, and those that can fit the head
+abbrev pub rows : List ℕ → List ℕ → ℕ → Entry → List Row
+rows s before r e =
+    (3 if linkFault s (before ++ (r ∷ [])) e) ∷ (4 if badForm e) ∷ (5 if badArg e) ∷ (6 if badInterval e) ∷ (7 if operandFault (nodesIn s before) e) ∷
+    (8 if countFault s before e) ∷ (9 if delayFault s before e) ∷ (10 if nameFault s before e) ∷ []
+
+abbrev pub headRows : List ℕ → List Row
+headRows s =
+    (1 if badLength (length s)) ∷ (2 if badHead (entryOf s 0)) ∷ (3 if linkFault s (0 ∷ []) (entryOf s 0)) ∷ []
+
+-- the number of the first row that fits, or 0
+unfoldable pub fault : List ℕ → List ℕ → ℕ → ℕ
+fault s before r = first (rows s before r (entryOf s r))
+
+unfoldable pub headFault : List ℕ → ℕ
+headFault s = first (headRows s)
+
+-- ---- reading
+abbrev pub refused : ℕ → ℕ → Reading
+refused n r = record { number = n; «record» = r; table = noTable }
+
+abbrev pub accepted : Table → Reading
+accepted t = record { number = 0; «record» = 0; table = t }
+
+-- the refusal n at the record r, or, where n is 0, what else there is
+abbrev pub unless : ℕ → ℕ → Reading → Reading
+unless n r x = pick (eqb n 0) x (refused n r)
+
+-- the end of a chain: 11 where it had no rule
+abbrev pub finished : List ℕ → List ℕ → Reading
+finished s chain = unless (first ((11 if eqb (length (rules s chain)) 0) ∷ [])) 0 (accepted (tableOf s chain))
+
+-- the record r of the chain, 0 at its end, and those that it leads to; f is how many there can be
+unfoldable pub along : List ℕ → ℕ → List ℕ → ℕ → Reading
+along s zero before r = finished s before
+along s (suc f) before r =
+    pick (eqb r 0) (finished s before)
+    (unless (fault s before r) r (along s f (before ++ (r ∷ [])) (entryOf s r .next)))
+
+unfoldable pub reading : List ℕ → Reading
+reading s = unless (headFault s) 0 (along s 255 (0 ∷ []) (entryOf s 0 .next))
+
+-- a reading as one number: 0 if the book is accepted
+abbrev pub codeOf : Reading → ℕ
+codeOf x = x .number + 256 * x .«record»

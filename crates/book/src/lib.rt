@@ -1,0 +1,370 @@
+// Reads a book, document 01's term for a list of rules in records of 12 bytes, into a table.
+use table::Node;
+use table::Rule;
+use table::Table;
+use table::Uses;
+ghost use mathlib.Core.Path.{_≡_};
+ghost use Prim.Native.Nat.{_+_, _*_, _-_, _≤_, _<_};
+ghost use mathlib.Core.Bool.{true, false};
+ghost use lib.ListN.{length, getD};
+ghost use Rattle.lists.specs.Choice.{pick};
+ghost use Rattle.table.specs.Nodes.{noTable};
+ghost use Rattle.book.specs.Entries.{joined, joinedAt, entryFrom, entryOf, usesIn, isNode, formedBy, badForm, badArg, badInterval, badLength, badHead};
+ghost use Rattle.book.specs.Reading.{refused, headFault, reading, codeOf};
+ghost use Rattle.book.specs.Steps.{entered, nodeBy, nodeAdded, ruleAdded, added};
+ghost use Rattle.book.specs.Steps.{badLink, badOperand, tooMany, tooLong, nameUsed, walkFault, begun, ended};
+
+// What a record of the book holds: its kind and the record that it links to, then the fields that its kind may use, where an operand
+// is the number of a record, and a tail that is to be zero.
+pub struct Entry {
+    pub kind: u8,
+    pub next: u8,
+    pub arg: u8,
+    pub lo: u16,
+    pub hi: u16,
+    pub left: u8,
+    pub right: u8,
+    pub tail0: u8,
+    pub tail1: u8,
+    pub tail2: u8,
+}
+
+// Where the walk along the chain stands: the table so far, and of each record 0 if it is not passed, 1 if it is
+// passed and no node, and 2 + p if it is the node at place p.
+pub struct Walk {
+    pub table: Table,
+    pub seen: [u8; 256],
+}
+
+// The number of a refusal and the record that it is about, with a table of zeros; or 0, 0 and the table.
+pub struct Reading {
+    pub number: u8,
+    pub record: u8,
+    pub table: Table,
+}
+
+fn join(low: u8, high: u8) -> u16
+    ensures { λ r. ⌜ r ≡ joined low high ⌝ }
+{
+    low as u16 + 256 * (high as u16)
+}
+
+fn joined_at(s: &[u8], at: usize) -> u16
+    requires { ⌜ at + 2 ≤ length (now s) ⌝ }
+    ensures { λ r. ⌜ r ≡ joinedAt (now (s .entry)) at ⌝ }
+{
+    join(s[at], s[at + 1])
+}
+
+fn entry_from(s: &[u8], at: usize) -> Entry
+    requires { ⌜ at + 12 ≤ length (now s) ⌝ }
+    ensures { λ r. ⌜ r ≡ entryFrom (now (s .entry)) at ⌝ }
+{
+    let lo = joined_at(s, at + 2);
+    let hi = joined_at(s, at + 4);
+    Entry {
+        kind: s[at],
+        arg: s[at + 1],
+        lo,
+        hi,
+        left: s[at + 6],
+        right: s[at + 7],
+        next: s[at + 8],
+        tail0: s[at + 9],
+        tail1: s[at + 10],
+        tail2: s[at + 11],
+    }
+}
+
+fn entry_of(s: &[u8], r: u8) -> Entry
+    requires { ⌜ 12 * r + 12 ≤ length (now s) ⌝ }
+    ensures { λ e. ⌜ e ≡ entryOf (now (s .entry)) r ⌝ }
+{
+    entry_from(s, 12 * (r as usize))
+}
+
+// The fields that a kind uses.
+fn uses_in(kind: u8) -> Uses
+    ensures { λ r. ⌜ r ≡ usesIn kind ⌝ }
+{
+    if kind == 11 {
+        return Uses {
+            arg: true,
+            interval: false,
+            left: true,
+            right: false,
+        };
+    }
+    table::uses_of(kind)
+}
+
+fn is_node(k: u8) -> bool
+    ensures { λ b. ⌜ b ≡ isNode k ⌝ }
+{
+    (1 <= k) & (k <= 10)
+}
+
+fn formed_by(used: Uses, e: Entry) -> bool
+    ensures { λ b. ⌜ b ≡ formedBy used e ⌝ }
+{
+    (1 <= e.kind)
+        & (e.kind <= 11)
+        & (used.arg | (e.arg == 0))
+        & (used.interval | ((e.lo == 0) & (e.hi == 0)))
+        & (used.left | (e.left == 0))
+        & (used.right | (e.right == 0))
+        & (e.tail0 == 0)
+        & (e.tail1 == 0)
+        & (e.tail2 == 0)
+}
+
+fn bad_form(e: Entry) -> bool
+    ensures { λ b. ⌜ b ≡ badForm e ⌝ }
+{
+    !formed_by(uses_in(e.kind), e)
+}
+
+fn bad_arg(e: Entry) -> bool
+    ensures { λ b. ⌜ b ≡ badArg e ⌝ }
+{
+    ((e.kind == 1) & (31 < e.arg)) | ((e.kind == 11) & (e.arg == 0))
+}
+
+fn bad_interval(e: Entry) -> bool
+    ensures { λ b. ⌜ b ≡ badInterval e ⌝ }
+{
+    (e.hi < e.lo) | (4095 < e.hi)
+}
+
+fn seen_at(w: Walk, r: u8) -> u8
+    ensures { λ n. ⌜ n ≡ getD (w .seen) r 0 ⌝ }
+{
+    let k = r as usize;
+    w.seen[k]
+}
+
+fn bad_link(n: usize, w: Walk, e: Entry) -> bool
+    ensures { λ b. ⌜ b ≡ badLink n w e ⌝ }
+{
+    (e.next != 0) & ((n <= 12 * (e.next as usize)) | (0 < seen_at(w, e.next)))
+}
+
+fn bad_operand(w: Walk, e: Entry) -> bool
+    ensures { λ b. ⌜ b ≡ badOperand w e ⌝ }
+{
+    let u = uses_in(e.kind);
+    (u.left & (seen_at(w, e.left) < 2)) | (u.right & (seen_at(w, e.right) < 2))
+}
+
+fn too_many(w: Walk, e: Entry) -> bool
+    ensures { λ b. ⌜ b ≡ tooMany w e ⌝ }
+{
+    (is_node(e.kind) & (64 <= w.table.node_count)) | ((e.kind == 11) & (8 <= w.table.rule_count))
+}
+
+fn place_of(w: Walk, r: u8) -> u8
+    ensures { λ n. ⌜ n ≡ getD (w .seen) r 0 - 2 ⌝ }
+{
+    let s = seen_at(w, r);
+    if s < 2 { 0 } else { s - 2 }
+}
+
+fn node_by(w: Walk, e: Entry) -> Node
+    ensures { λ n. ⌜ n ≡ nodeBy w e ⌝ }
+{
+    let left = place_of(w, e.left);
+    let right = place_of(w, e.right);
+    Node {
+        kind: e.kind,
+        arg: e.arg,
+        lo: e.lo,
+        hi: e.hi,
+        left,
+        right,
+    }
+}
+
+fn too_long(w: Walk, e: Entry) -> bool
+    ensures { λ b. ⌜ b ≡ tooLong w e ⌝ }
+{
+    let n = node_by(w, e);
+    let d = table::delay_over(w.table, n);
+    is_node(e.kind) & (4095 < d)
+}
+
+fn name_used(w: Walk, e: Entry) -> bool
+    ensures { λ b. ⌜ b ≡ nameUsed w e ⌝ }
+{
+    let rules = w.table.rules;
+    let own = table::is_new(rules, w.table.rule_count, e.arg as u16);
+    (e.kind == 11) & !own
+}
+
+fn either(test: bool, number: u8, other: u8) -> u8
+    ensures { λ r. ⌜ r ≡ pick test number other ⌝ }
+{
+    if test { number } else { other }
+}
+
+// The first row of document 01's table that fits a record where the walk stands, or 0.
+fn walk_fault(n: usize, w: Walk, e: Entry) -> u8
+    ensures { λ r. ⌜ r ≡ walkFault n w e ⌝ }
+{
+    let f10 = either(name_used(w, e), 10, 0);
+    let f9 = either(too_long(w, e), 9, f10);
+    let f8 = either(too_many(w, e), 8, f9);
+    let f7 = either(bad_operand(w, e), 7, f8);
+    let f6 = either(bad_interval(e), 6, f7);
+    let f5 = either(bad_arg(e), 5, f6);
+    let f4 = either(bad_form(e), 4, f5);
+    either(bad_link(n, w, e), 3, f4)
+}
+
+fn enter(w: Walk, r: u8) -> Walk
+    ensures { λ v. ⌜ v ≡ entered w r ⌝ }
+{
+    let k = r as usize;
+    let table = w.table;
+    let mut seen = w.seen;
+    seen[k] = 1;
+    Walk { table, seen }
+}
+
+fn add_node(w: Walk, r: u8, e: Entry) -> Walk
+    requires { ⌜ w .table .«node_count» < 64 ⌝ }
+    ensures { λ v. ⌜ v ≡ nodeAdded w r e ⌝ }
+{
+    let n = node_by(w, e);
+    let k = r as usize;
+    let mut table = w.table;
+    let at = table.node_count;
+    let mut seen = w.seen;
+    seen[k] = (2 + at) as u8;
+    table.nodes[at] = n;
+    table.node_count = at + 1;
+    Walk { table, seen }
+}
+
+fn add_rule(w: Walk, e: Entry) -> Walk
+    requires { ⌜ w .table .«rule_count» < 8 ⌝ }
+    ensures { λ v. ⌜ v ≡ ruleAdded w e ⌝ }
+{
+    let watched = place_of(w, e.left);
+    let seen = w.seen;
+    let mut table = w.table;
+    let at = table.rule_count;
+    table.rules[at] = Rule {
+        name: e.arg as u16,
+        watched,
+    };
+    table.rule_count = at + 1;
+    Walk { table, seen }
+}
+
+fn add(w: Walk, r: u8, e: Entry) -> Walk
+    requires { ⌜ (isNode (e .kind) ≡ true → w .table .«node_count» < 64) × (isNode (e .kind) ≡ false → w .table .«rule_count» < 8) ⌝ }
+    ensures { λ v. ⌜ v ≡ added w r e ⌝ }
+{
+    if is_node(e.kind) {
+        add_node(w, r, e)
+    } else {
+        add_rule(w, e)
+    }
+}
+
+fn begin() -> Walk
+    ensures { λ w. ⌜ w ≡ begun ⌝ }
+{
+    let table = table::no_table();
+    let mut seen = [0u8; 256];
+    seen[0] = 1;
+    Walk { table, seen }
+}
+
+fn refuse(number: u8, at: u8) -> Reading
+    ensures { λ r. ⌜ r ≡ refused number at ⌝ }
+{
+    let table = table::no_table();
+    Reading {
+        number,
+        record: at,
+        table,
+    }
+}
+
+fn end(w: Walk) -> Reading
+    ensures { λ r. ⌜ r ≡ ended w ⌝ }
+{
+    let table = w.table;
+    if table.rule_count == 0 {
+        refuse(11, 0)
+    } else {
+        Reading {
+            number: 0,
+            record: 0,
+            table,
+        }
+    }
+}
+
+fn bad_length(n: usize) -> bool
+    ensures { λ b. ⌜ b ≡ badLength n ⌝ }
+{
+    !((n % 12 == 0) & (12 <= n) & (n <= 3060))
+}
+
+fn bad_head(e: Entry) -> bool
+    ensures { λ b. ⌜ b ≡ badHead e ⌝ }
+{
+    !((e.kind == 0)
+        & (e.arg == 0)
+        & (e.lo == 0)
+        & (e.hi == 0)
+        & (e.left == 0)
+        & (e.right == 0)
+        & (e.tail0 == 0)
+        & (e.tail1 == 0)
+        & (e.tail2 == 0))
+}
+
+fn head_fault(s: &[u8]) -> u8
+    ensures { λ r. ⌜ r ≡ headFault (now (s .entry)) ⌝ }
+{
+    if bad_length(s.len()) {
+        return 1;
+    }
+    let e = entry_of(s, 0);
+    let f3 = either(bad_link(s.len(), begin(), e), 3, 0);
+    either(bad_head(e), 2, f3)
+}
+
+pub fn read(book: &[u8]) -> Reading
+    ensures { λ r. ⌜ r ≡ reading (now (book .entry)) ⌝ }
+{
+    let f = head_fault(book);
+    if f != 0 {
+        return refuse(f, 0);
+    }
+    let head = entry_of(book, 0);
+    let mut w = begin();
+    let mut at = head.next;
+    while at != 0 {
+        let v = enter(w, at);
+        let e = entry_of(book, at);
+        let g = walk_fault(book.len(), v, e);
+        if g != 0 {
+            return refuse(g, at);
+        }
+        w = add(v, at, e);
+        at = e.next;
+    }
+    end(w)
+}
+
+// 0 for a book that is accepted, or the number of its refusal and 256 times the record.
+pub fn check(book: &[u8]) -> u32
+    ensures { λ r. ⌜ r ≡ codeOf (reading (now (book .entry))) ⌝ }
+{
+    let r = read(book);
+    r.number as u32 + 256 * (r.record as u32)
+}

@@ -1,0 +1,5 @@
+pub mod Words
+pub mod Registers
+pub mod Sweeps
+pub mod Parts
+pub mod Signals

@@ -1,0 +1,78 @@
+-- A part of a list that was lent from a on, k words of it, said of the whole list. Assumes nothing.
+use mathlib.Core.Path.{_≡_, sym, ap, ap₂, _∙_, subst}
+use mathlib.Core.Bool.{Bool}
+use mathlib.Core.List.{List, _++_, append-assoc}
+use Prim.Native.Nat.{ℕ, _+_, _≤_}
+use native.Mathlib.Nat.{add-zero}
+use native.Mathlib.Omega.{arith}
+use lib.ListN.{length, getD, take, drop, take-append-drop, length-take, length-drop}
+use lib.Seq.{take-all, take-take, take-add, drop-drop, drop-append-le}
+use borrow.Rule.Slice.PartMut.{putMid, midOf}
+use Rattle.column.specs.Column.{register, Laid, Turned, room}
+use Rattle.lists.specs.Bits.{pack}
+use Rattle.lists.proofs.Columns.{length-pack}
+use Rattle.column.proofs.Registers.{length-register, register-in, register-same, length-lay, lay-ext}
+
+-- a register of the part is one of the whole
+pub register-part : (a k d m : ℕ) (xs : List ℕ) → a + k ≤ length xs → d + m ≤ k → register d m (midOf a k xs) ≡ register (a + d) m xs
+register-part a k d m xs h l =
+    register-same d m (midOf a k xs) (a + d) xs (omega (arith, length-register a k xs h)) (omega arith) λ w j.
+    register-in a k xs (d + w) (omega arith) ∙ ap (λ (i : ℕ). getD xs i 0) (omega arith)
+
+drop-take : (i k : ℕ) (l : List ℕ) → i ≤ k → k ≤ length l → drop i (take k l) ++ drop k l ≡ drop i l
+drop-take i k l h j = sym (drop-append-le i (take k l) (drop k l) (omega (arith, length-take k l))) ∙ ap (drop i) (take-append-drop k l)
+
+-- what was laid in the part is laid in the whole
+pub part-laid : (a k : ℕ) (xs : List ℕ) {d m : ℕ} {f : ℕ → Bool} {ys : List ℕ} → a + k ≤ length xs → d + m ≤ k → Laid d m f (midOf a k xs) ys
+    → Laid (a + d) m f xs (putMid a k xs ys)
+part-laid a k xs {d} {m} {f} h l r =
+    let L : List ℕ = drop a xs in
+    let P : List ℕ = take m (pack m f) in
+    let long : k ≤ length L = omega (arith, length-drop a xs) in
+    record {
+      is =
+          ap (λ (y : List ℕ). take a xs ++ (y ++ drop k L)) (r .is)
+          ∙ ap (λ (y : List ℕ). take a xs ++ y) (append-assoc (take d (take k L) ++ P) (drop (d + m) (take k L)) (drop k L))
+          ∙ ap₂ (λ (u v : List ℕ). take a xs ++ (u ++ P ++ v)) (take-take d k L (omega arith)) (drop-take (d + m) k L l long)
+          ∙ sym (append-assoc (take a xs) (take d L ++ P) (drop (d + m) L))
+          ∙ ap₂ (λ (u v : List ℕ). u ++ v)
+          (sym (append-assoc (take a xs) (take d L) P) ∙ ap (λ (u : List ℕ). u ++ P) (sym (take-add a d xs)))
+          (drop-drop (d + m) a xs ∙ ap (λ (n : ℕ). drop n xs) (let e : a + (d + m) ≡ a + d + m = omega arith in e));
+    }
+
+pub laid-length : {at m : ℕ} {f : ℕ → Bool} {xs ys : List ℕ} → at + m ≤ length xs → Laid at m f xs ys → length ys ≡ length xs
+laid-length {at} {m} {f} {xs} h r = ap length (r .is) ∙ length-lay at m f xs h
+
+-- a part that was turned
+pub part-turned : (a k : ℕ) (xs : List ℕ) {f : ℕ → Bool} {ys : List ℕ} → a + k ≤ length xs → Turned f (midOf a k xs) ys → Laid a k f xs (putMid a k xs ys)
+part-turned a k xs {f} h r =
+    record {
+      is =
+          ap (λ (y : List ℕ). take a xs ++ (y ++ drop k (drop a xs)))
+          (r .is ∙ ap (λ (n : ℕ). pack n f) (length-register a k xs h) ∙ sym (take-all k (pack k f) (omega (arith, length-pack k f))))
+          ∙ sym (append-assoc (take a xs) (take k (pack k f)) (drop k (drop a xs)))
+          ∙ ap (λ (v : List ℕ). take a xs ++ take k (pack k f) ++ v) (drop-drop k a xs);
+    }
+
+-- a part of m words that was turned by what it held
+pub part-op : (op : List ℕ → ℕ → Bool) (a k m : ℕ) (xs : List ℕ) {ys : List ℕ} → k ≡ m → a + k ≤ length xs → Turned (op (midOf a k xs)) (midOf a k xs) ys
+    → Laid a m (op (register a m xs)) xs (putMid a k xs ys)
+part-op op a k m xs {ys} e h r = subst (λ (n : ℕ). Laid a n (op (register a n xs)) xs (putMid a k xs ys)) e (part-turned a k xs h r)
+
+-- a part that begins with one register and ends with another, of which the second was laid
+pub part-pair : (op : List ℕ → List ℕ → ℕ → Bool) (a k d m : ℕ) (xs : List ℕ) {ys : List ℕ} → room d (midOf a k xs) ≡ m → d + m ≤ k → m ≤ d → a + k ≤ length xs
+    → Laid d (room d (midOf a k xs)) (op (register d (room d (midOf a k xs)) (midOf a k xs)) (register 0 (room d (midOf a k xs)) (midOf a k xs))) (midOf a k xs) ys
+    → Laid (a + d) m (op (register (a + d) m xs) (register a m xs)) xs (putMid a k xs ys)
+part-pair op a k d m xs {ys} e l j h r =
+    let mid : List ℕ = midOf a k xs in
+    let p : Laid d m (op (register d m mid) (register 0 m mid)) mid ys = subst (λ (n : ℕ). Laid d n (op (register d n mid) (register 0 n mid)) mid ys) e r in
+    let q : Laid d m (op (register (a + d) m xs) (register a m xs)) mid ys =
+    subst (λ (c : List ℕ). Laid d m (op (register (a + d) m xs) c) mid ys) (register-part a k 0 m xs h (omega arith) ∙ ap (λ (i : ℕ). register i m xs) (add-zero a))
+    (subst (λ (c : List ℕ). Laid d m (op c (register 0 m mid)) mid ys) (register-part a k d m xs h l) p)
+    in
+    part-laid a k xs h l q
+
+-- the same column, said otherwise
+pub laid-as : (g : ℕ → Bool) {at m n : ℕ} {f : ℕ → Bool} {xs ys : List ℕ} → m ≡ n → ((t : ℕ) → f t ≡ g t) → Laid at m f xs ys → Laid at n g xs ys
+laid-as g {at} {m} {f = f} {xs = xs} {ys = ys} e same r =
+    subst (λ (k : ℕ). Laid at k g xs ys) e (record { is = r .is ∙ lay-ext at m f g xs (λ t h. same t) })

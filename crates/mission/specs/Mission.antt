@@ -1,0 +1,68 @@
+-- The third demand: every list of calls on a session over a book that was read and simplified.
+use Prim.Native.Nat.{ℕ}
+use mathlib.Core.Path.{_≡_}
+use mathlib.Core.Logic.{_↔_}
+use mathlib.Core.Bool.{Bool, true, false, _||_}
+use mathlib.Core.List.{List, [], _∷_}
+use lib.ListN.{length}
+use Rattle.lists.specs.Choice.{Row}
+use Rattle.mltl.specs.Mltl.{holds, delay}
+use Rattle.table.specs.declared.Table.{Table}
+use Rattle.table.specs.Nodes.{watchedFormula}
+use Rattle.book.specs.Reading.{reading}
+use Rattle.simplify.specs.Promise.{Promised}
+use Rattle.simplify.specs.declared.Simplified.{Simplified}
+use Rattle.session.specs.declared.Session.{Session}
+use Rattle.session.specs.Session.{opening, unfit, feedRows, closeRows}
+use Rattle.mission.specs.Calls.{Call, feed, close, Meets, numberOf, Calls, statesFed, verdictsGiven, Claim}
+
+-- An accepted read of a book, the simplifier's accepted answer for its table, and an accepted open of a rule; any history.
+pub record Start : Type 0 where
+  pub book : List ℕ
+  pub read : reading book .number ≡ 0
+  pub simplified : Simplified
+  pub promised : Promised (reading book .table) simplified
+  pub accepted : simplified .number ≡ 0
+  pub rule : ℕ
+  pub opened : opening (simplified .table) rule .number ≡ 0
+  pub history : List ℕ
+
+-- the session that open gave
+abbrev pub sessionOf : Start → Session
+sessionOf m = opening (m .simplified .table) (m .rule) .session
+
+-- D: the delay of the rule in the simplified table
+abbrev pub delayOf : Start → ℕ
+delayOf m = delay (watchedFormula (m .simplified .table) (m .rule))
+
+-- the verdict of the rule as it stood in the book, before simplifying
+abbrev pub verdictOf : Start → List ℕ → ℕ → Bool
+verdictOf m = holds (watchedFormula (reading (m .book) .table) (m .rule))
+
+-- The third demand: what holds of every list of calls, by whether a close was accepted in it.
+abbrev pub ThirdDemand : Type 0
+ThirdDemand = (m : Start) (cs : List Call) (s : Session) (h : List ℕ) (ended : Bool)
+    → Calls (sessionOf m) (m .history) cs s h ended
+    → Claim (verdictOf m) (delayOf m) (m .history) ended h (statesFed cs) (verdictsGiven cs)
+
+-- The first calls of such a list are such a list, with the session and the history that they have come to.
+pub record Beginning (first : Session) (start : List ℕ) (cs : List Call) : Type 0 where
+  pub session : Session
+  pub history : List ℕ
+  pub ended : Bool
+  pub calls : Calls first start cs session history ended
+
+-- ---- a call is refused exactly where a row of document 01's Refusals fits it
+-- one of the rows fits
+abbrev pub someFits : List Row → Bool
+someFits [] = false
+someFits (r ∷ rs) = r .test || someFits rs
+
+-- the rows of a call, by its session and the lengths of what it was lent
+abbrev pub rowsOf : Call → List Row
+rowsOf (feed block e) =
+    feedRows (unfit (e .session)) (e .session .seen) (length block) (length (e .history)) (length (e .scratch)) (length (e .out))
+rowsOf (close e) = closeRows (unfit (e .session)) (length (e .history)) (length (e .scratch)) (length (e .out))
+
+abbrev pub RefusedExactly : Type 0
+RefusedExactly = (c : Call) → Meets c → (¬ (numberOf c ≡ 0)) ↔ (someFits (rowsOf c) ≡ true)

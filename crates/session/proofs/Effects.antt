@@ -1,0 +1,77 @@
+-- Effects by their number: a call whose number is 0 is accepted, and any other refused. Assumes nothing.
+use Prim.Native.Nat.{ℕ, _+_, _-_, _/_, _≤_, _<_, min}
+use native.Mathlib.Omega.{arith}
+use mathlib.Core.Path.{_≡_, refl, sym, ap, _∙_}
+use mathlib.Core.Bool.{Bool, true, false, not, _||_}
+use mathlib.Core.Logic.{⊎-elim}
+use mathlib.Core.List.{List, [], _∷_, _++_, append-assoc}
+use borrow.Author.Tests.{eq-eqb, ne-eqb, eqb-true, eqb-false, not-false, ltb-false, leb-false}
+use lib.Dec.{ltb, leb, eqb}
+use lib.ListN.{length, getD, take, drop, replicate, List·getD-append}
+use Rattle.lists.specs.Choice.{pick, _if_, first}
+use Rattle.lists.specs.Sequence.{ticks, padded}
+use Rattle.lists.specs.Bits.{bitAt, words, packed}
+use Rattle.lists.proofs.Tests.{true-or-false, or-left, or-right, none-test, none-rest}
+use Rattle.lists.proofs.Sequences.{ticks-ext}
+use Rattle.lists.proofs.Columns.{bitAt-same, length-packed, packed-in}
+use Rattle.mltl.specs.Mltl.{Formula, holds, delay}
+use Rattle.table.specs.declared.Table.{Table}
+use Rattle.table.specs.Sound.{isSound, Sound, delayNumber}
+use Rattle.table.proofs.Soundness.{sound-iff, watched-short}
+use Rattle.session.specs.declared.Session.{Session}
+use Rattle.session.specs.Session.{Effect, refused, unfit, seenLimit, delayOf, formulaOf, keptOf, verdictWords, feedNumber, fed, feeding, closeNumber, closed, closing, opening}
+
+-- a choice between an accepted effect, whose number is 0, and a refused one
+module _ (n : ℕ) (yes : Effect) (zero : yes .answer .number ≡ 0) (s : Session) (h x o : List ℕ) where
+  abbrev chosen : Effect
+  chosen = pick (eqb n 0) yes (refused n s h x o)
+
+  accepted-is : chosen .answer .number ≡ 0 → (chosen ≡ yes) × (n ≡ 0)
+  accepted-is e = ⊎-elim (λ (b : eqb n 0 ≡ true). (rw b, eqb-true n 0 b)) (λ (b : eqb n 0 ≡ false). absurd (eqb-false n 0 b (rw b at e))) (true-or-false (eqb n 0))
+
+  refused-is : (chosen .answer .number ≡ 0 → ⊥) → (chosen ≡ refused n s h x o) × (n ≡ 0 → ⊥)
+  refused-is e =
+      ⊎-elim (λ (b : eqb n 0 ≡ true). absurd (e (rw b zero))) (λ (b : eqb n 0 ≡ false). (rw b, eqb-false n 0 b)) (true-or-false (eqb n 0))
+
+  chosen-number : chosen .answer .number ≡ n
+  chosen-number = ⊎-elim (λ (b : eqb n 0 ≡ true). rw b (zero ∙ sym (eqb-true n 0 b))) (λ (b : eqb n 0 ≡ false). rw b) (true-or-false (eqb n 0))
+
+module _ (s : Session) (h x o : List ℕ) where
+  module _ (block : List ℕ) where
+    abbrev n : ℕ
+    n = feedNumber s (length block) (length h) (length x) (length o)
+
+    pub feed-number : feeding s block h x o .answer .number ≡ n
+    unfolding feeding
+    feed-number = chosen-number n (fed s block h x o) refl s h x o
+
+    pub feed-accepted : feeding s block h x o .answer .number ≡ 0 → (feeding s block h x o ≡ fed s block h x o) × (n ≡ 0)
+    unfolding feeding
+    feed-accepted e = accepted-is n (fed s block h x o) refl s h x o e
+
+    pub feed-refused : (feeding s block h x o .answer .number ≡ 0 → ⊥) → (feeding s block h x o ≡ refused n s h x o) × (n ≡ 0 → ⊥)
+    unfolding feeding
+    feed-refused e = refused-is n (fed s block h x o) refl s h x o e
+
+  pub close-number : closing s h x o .answer .number ≡ closeNumber s (length h) (length x) (length o)
+  unfolding closing
+  close-number = chosen-number (closeNumber s (length h) (length x) (length o)) (closed s h x o) refl s h x o
+
+  pub close-accepted : closing s h x o .answer .number ≡ 0 → (closing s h x o ≡ closed s h x o) × (closeNumber s (length h) (length x) (length o) ≡ 0)
+  unfolding closing
+  close-accepted e = accepted-is (closeNumber s (length h) (length x) (length o)) (closed s h x o) refl s h x o e
+
+  pub close-refused : (closing s h x o .answer .number ≡ 0 → ⊥)
+      → (closing s h x o ≡ refused (closeNumber s (length h) (length x) (length o)) s h x o) × (closeNumber s (length h) (length x) (length o) ≡ 0 → ⊥)
+  unfolding closing
+  close-refused e = refused-is (closeNumber s (length h) (length x) (length o)) (closed s h x o) refl s h x o e
+
+-- the verdicts in the words that a call writes
+pub words-verdicts : (m count : ℕ) (f : Formula) (trace o : List ℕ) → ticks (bitAt (verdictWords m count f trace o)) count ≡ ticks (holds f trace) count
+words-verdicts m count f trace o = ticks-ext (bitAt (verdictWords m count f trace o)) (holds f trace) count λ i h.
+    let p : List ℕ = packed count (holds f trace) in
+    let z : List ℕ = replicate (m - length p) 0 in
+    bitAt-same (p ++ z ++ drop m o) p i
+    (ap (λ (l : List ℕ). getD l (i / 64) 0) (append-assoc p z (drop m o))
+    ∙ List·getD-append p (z ++ drop m o) 0 (i / 64) (omega (arith, length-packed count (holds f trace))))
+    ∙ packed-in count (holds f trace) i h

@@ -1,0 +1,265 @@
+// Sessions: states come in blocks, and verdicts are given as soon as they are settled.
+ghost use mathlib.Core.Path.{_≡_};
+ghost use mathlib.Core.List.{_++_};
+ghost use Prim.Native.Nat.{_+_, _-_, _≤_, min};
+ghost use lib.ListN.{length, take, drop};
+ghost use Rattle.lists.specs.Choice.{pick, first};
+ghost use Rattle.table.specs.Nodes.{formulaAt};
+ghost use Rattle.verdict.specs.Verdict.{cleared};
+ghost use Rattle.session.specs.Session.{Effect, noSession, verdictWords, opening, feedRows, fed, feeding, closeRows, closed, closing};
+ghost use Rattle.session.specs.Ready.{Writes, Feeds, Closes};
+use table::Table;
+
+// Document 01's term: a table, the number of the rule that is watched, and how many states it has seen.
+pub struct Session {
+    pub table: Table,
+    pub rule: usize,
+    pub seen: u32,
+}
+
+pub struct Opening {
+    pub number: u8,
+    pub session: Session,
+}
+
+// The number of a refusal or 0, the count of verdicts, and the session handed back.
+pub struct Answer {
+    pub number: u8,
+    pub count: usize,
+    pub session: Session,
+}
+
+impl Session {
+    // A session over a sound table, that watches one of its rules; 25, 21 and 'no session' otherwise.
+    pub fn open(table: Table, rule: usize) -> Opening
+        ensures { λ r. ⌜ r ≡ opening table rule ⌝ }
+    {
+        let d = table::delay(table, rule);
+        if d.number != 0 {
+            return Opening {
+                number: d.number,
+                session: no_session(),
+            };
+        }
+        Opening {
+            number: 0,
+            session: Session {
+                table,
+                rule,
+                seen: 0,
+            },
+        }
+    }
+
+    // The verdicts that a block of states settles, in the first 16 words of out.
+    pub fn feed(
+        self,
+        block: &[u32],
+        history: &mut [u32],
+        scratch: &mut [u64],
+        out: &mut [u64],
+    ) -> Answer
+        ensures { λ r. ⌜ record { answer = r; history = now (history .exit); scratch = now (scratch .exit); out = now (out .exit) } ≡ feeding self (now (block .entry)) (now (history .entry)) (now (scratch .entry)) (now (out .entry)) ⌝ }
+    {
+        let d = table::delay(self.table, self.rule);
+        let number = feed_number(
+            d.number != 0,
+            self.seen,
+            block.len(),
+            history.len(),
+            scratch.len(),
+            out.len(),
+        );
+        if number != 0 {
+            return Answer {
+                number,
+                count: 0,
+                session: self,
+            };
+        }
+        advance(self, d.delay as usize, block, history, scratch, out)
+    }
+
+    // The verdicts of the states that history still holds, in the first 64 words of out.
+    pub fn close(self, history: &[u32], scratch: &mut [u64], out: &mut [u64]) -> Answer
+        ensures { λ r. ⌜ record { answer = r; history = now (history .entry); scratch = now (scratch .exit); out = now (out .exit) } ≡ closing self (now (history .entry)) (now (scratch .entry)) (now (out .entry)) ⌝ }
+    {
+        let d = table::delay(self.table, self.rule);
+        let number = close_number(d.number != 0, history.len(), scratch.len(), out.len());
+        if number != 0 {
+            return Answer {
+                number,
+                count: 0,
+                session: self,
+            };
+        }
+        finish(self, d.delay as usize, history, scratch, out)
+    }
+}
+
+fn no_session() -> Session
+    ensures { λ r. ⌜ r ≡ noSession ⌝ }
+{
+    let table = table::no_table();
+    Session {
+        table,
+        rule: 0,
+        seen: 0,
+    }
+}
+
+fn lesser(a: usize, b: usize) -> usize
+    ensures { λ r. ⌜ r ≡ min a b ⌝ }
+{
+    if a < b { a } else { b }
+}
+
+fn over(a: usize, b: usize) -> usize
+    ensures { λ r. ⌜ r ≡ a - b ⌝ }
+{
+    if a < b { 0 } else { a - b }
+}
+
+// The m states from place `by` on go to the first places.
+fn shift(s: &mut [u32], by: usize, m: usize)
+    requires { ⌜ by + m ≤ length (now s) ⌝ }
+    ensures { λ _. ⌜ now (s .exit) ≡ take m (drop by (now (s .entry))) ++ drop m (now (s .entry)) ⌝ }
+{
+    for j in 0..m {
+        let x = s[by + j];
+        s[j] = x;
+    }
+}
+
+// The block's states from place `from` on go to the places from `at` on.
+fn append(s: &mut [u32], at: usize, block: &[u32], from: usize)
+    requires { ⌜ (from ≤ length (now block)) × (at + (length (now block) - from) ≤ length (now s)) ⌝ }
+    ensures { λ _. ⌜ now (s .exit) ≡ take at (now (s .entry)) ++ drop from (now (block .entry)) ++ drop (at + (length (now (block .entry)) - from)) (now (s .entry)) ⌝ }
+{
+    let m = block.len() - from;
+    for j in 0..m {
+        s[at + j] = block[from + j];
+    }
+}
+
+// Of the first h states of history and then the block, the last `left` go to history's first places.
+fn keep(history: &mut [u32], h: usize, block: &[u32], left: usize)
+    requires { ⌜ (h ≤ left) × (left ≤ h + length (now block)) × (left ≤ length (now history)) × (length (now block) ≤ 1024) × (1024 ≤ length (now history)) ⌝ }
+    ensures { λ _. ⌜ now (history .exit) ≡ drop (h + length (now (block .entry)) - left) (take h (now (history .entry)) ++ now (block .entry)) ++ drop left (now (history .entry)) ⌝ }
+{
+    let skip = h + block.len() - left;
+    let m = over(h, skip);
+    shift(history, skip, m);
+    append(history, m, block, over(skip, h));
+}
+
+// The verdicts of the first `count` ticks of a trace, in the first m words of out, the others of which become zero.
+fn write_verdicts(
+    t: Table,
+    place: usize,
+    older: &[u32],
+    newer: &[u32],
+    count: usize,
+    m: usize,
+    scratch: &mut [u64],
+    out: &mut [u64],
+)
+    requires { ⌜ Writes t place (now older ++ now newer) count m (now scratch) (now out) ⌝ }
+    ensures { λ _. ⌜ (now (scratch .exit) ≡ cleared (now (scratch .entry))) × (now (out .exit) ≡ verdictWords m count (formulaAt (t .nodes) place) (now (older .entry) ++ now (newer .entry)) (now (out .entry))) ⌝ }
+{
+    verdict::judge(t, place, older, newer, count, scratch, out);
+    let w = (count + 63) / 64;
+    column::clear(&mut out[w..m]);
+}
+
+fn either(test: bool, number: u8, other: u8) -> u8
+    ensures { λ r. ⌜ r ≡ pick test number other ⌝ }
+{
+    if test { number } else { other }
+}
+
+// The number of a feed of k states, where `unfit` says whether the session is, and the buffers have these lengths.
+fn feed_number(
+    unfit: bool,
+    seen: u32,
+    k: usize,
+    history: usize,
+    scratch: usize,
+    out: usize,
+) -> u8
+    ensures { λ r. ⌜ r ≡ first (feedRows unfit seen k history scratch out) ⌝ }
+{
+    let left = 4294967295 - seen as usize;
+    let f24 = either(left < k, 24, 0);
+    let f23 = either((history < 4095) | (scratch < 5280) | (out < 16), 23, f24);
+    let f22 = either(1024 < k, 22, f23);
+    either(unfit, 25, f22)
+}
+
+fn close_number(unfit: bool, history: usize, scratch: usize, out: usize) -> u8
+    ensures { λ r. ⌜ r ≡ first (closeRows unfit history scratch out) ⌝ }
+{
+    let f23 = either((history < 4095) | (scratch < 5280) | (out < 64), 23, 0);
+    either(unfit, 25, f23)
+}
+
+// A feed that is accepted; d is the delay.
+fn advance(
+    s: Session,
+    d: usize,
+    block: &[u32],
+    history: &mut [u32],
+    scratch: &mut [u64],
+    out: &mut [u64],
+) -> Answer
+    requires { ⌜ Feeds s d (now block) (now history) (now scratch) (now out) ⌝ }
+    ensures { λ r. ⌜ record { answer = r; history = now (history .exit); scratch = now (scratch .exit); out = now (out .exit) } ≡ fed s (now (block .entry)) (now (history .entry)) (now (scratch .entry)) (now (out .entry)) ⌝ }
+{
+    let t = s.table;
+    let rule = s.rule;
+    let place = t.rules[rule].watched as usize;
+    let seen = s.seen as usize;
+    let after = seen + block.len();
+    let h = lesser(seen, d);
+    let count = over(after, d) - over(seen, d);
+    write_verdicts(t, place, &history[0..h], block, count, 16, scratch, out);
+    keep(history, h, block, lesser(after, d));
+    let session = Session {
+        table: t,
+        rule,
+        seen: after as u32,
+    };
+    Answer {
+        number: 0,
+        count,
+        session,
+    }
+}
+
+// A close that is accepted; d is the delay.
+fn finish(
+    s: Session,
+    d: usize,
+    history: &[u32],
+    scratch: &mut [u64],
+    out: &mut [u64],
+) -> Answer
+    requires { ⌜ Closes s d (now history) (now scratch) (now out) ⌝ }
+    ensures { λ r. ⌜ record { answer = r; history = now (history .entry); scratch = now (scratch .exit); out = now (out .exit) } ≡ closed s (now (history .entry)) (now (scratch .entry)) (now (out .entry)) ⌝ }
+{
+    let t = s.table;
+    let rule = s.rule;
+    let place = t.rules[rule].watched as usize;
+    let count = lesser(s.seen as usize, d);
+    write_verdicts(t, place, &history[0..count], &history[0..0], count, 64, scratch, out);
+    let session = Session {
+        table: t,
+        rule,
+        seen: 0,
+    };
+    Answer {
+        number: 0,
+        count,
+        session,
+    }
+}

@@ -1,0 +1,4 @@
+pub mod Fits
+pub mod Promise
+pub mod Law
+pub mod Passes

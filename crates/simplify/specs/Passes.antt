@@ -1,0 +1,96 @@
+-- The two passes of the code over its arrays: the nodes anew under the laws, then the nodes that a rule needs.
+use Prim.Native.Nat.{ℕ, suc, _+_, _<_}
+use mathlib.Core.Bool.{Bool, true, false, _&&_}
+use mathlib.Core.List.{List, [], _∷_, foldl}
+use lib.ListN.{getD, take, set, replicate}
+use lib.Dec.{ltb}
+use Rattle.lists.specs.Choice.{pick}
+use Rattle.table.specs.Nodes.{opOf, usesOf, noNode}
+use Rattle.table.specs.declared.Node.{Node}
+use Rattle.table.specs.declared.Rule.{Rule}
+use Rattle.simplify.specs.Law.{nodeIn, sameNode, law}
+use Rattle.simplify.specs.declared.Build.{Build}
+use Rattle.simplify.specs.declared.Outcome.{Outcome}
+use Rattle.simplify.specs.declared.Outcome.the-variants.{Stay, At, Put}
+
+-- ---- new places for old ones
+abbrev pub renamed : List ℕ → Node → Node
+renamed ps n = record { kind = n .kind; arg = n .arg; lo = n .lo; hi = n .hi; left = getD ps (n .left) 0; right = getD ps (n .right) 0 }
+
+abbrev pub renamedRule : List ℕ → Rule → Rule
+renamedRule ps r = record { name = r .name; watched = getD ps (r .watched) 0 }
+
+-- ---- a build: its nodes and its places so far, and one more of each
+abbrev pub noBuild : Build
+noBuild = record { nodes = replicate 64 noNode; count = 0; places = replicate 64 0; done = 0 }
+
+abbrev pub nodesOf : Build → List Node
+nodesOf b = take (b .count) (b .nodes)
+
+abbrev pub placesOf : Build → List ℕ
+placesOf b = take (b .done) (b .places)
+
+abbrev pub pushNode : Build → Node → Build
+pushNode b n = record { nodes = set (b .nodes) (b .count) n; count = b .count + 1; places = b .places; done = b .done }
+
+abbrev pub pushPlace : Build → ℕ → Build
+pushPlace b p = record { nodes = b .nodes; count = b .count; places = set (b .places) (b .done) p; done = b .done + 1 }
+
+pub record Space (b : Build) : Type 0 where
+  pub count : b .count < 64
+  pub done : b .done < 64
+
+-- no interval of n or of a node of b passes the limit of a table
+pub record Bounded (b : Build) (n : Node) : Type 0 where
+  pub lo : n .lo < 4096
+  pub hi : n .hi < 4096
+  pub los : (k : ℕ) → nodeIn (b .nodes) k .lo < 4096
+  pub his : (k : ℕ) → nodeIn (b .nodes) k .hi < 4096
+
+-- ---- the first pass
+-- the first place of a node, or the place after the last
+unfoldable pub find : List Node → Node → ℕ
+find [] m = 0
+find (n ∷ ns) m = pick (sameNode n m) 0 (suc (find ns m))
+
+abbrev pub enterAt : Build → Node → ℕ → Build
+enterAt b n q = pushPlace (pick (ltb q (b .count)) b (pushNode b n)) q
+
+abbrev pub enter : Build → Node → Build
+enter b n = enterAt b n (find (nodesOf b) n)
+
+abbrev pub applied : Build → Node → Outcome → Build
+applied b n Stay = enter b n
+applied b n (At p) = pushPlace b p
+applied b n (Put m) = enter b m
+
+abbrev pub stepOf : Build → Node → Build
+stepOf b n = let m = renamed (placesOf b) n in applied b m (law (b .nodes) m)
+
+-- ---- the marks of what the rules need
+abbrev pub mark : Bool → ℕ → List Bool → List Bool
+mark on k ms = pick on (set ms k true) ms
+
+abbrev pub markNode : List Bool → ℕ → Node → List Bool
+markNode ms i n =
+    let on = getD ms i false in
+    let u = usesOf (opOf (n .kind)) in
+    mark (on && u .right) (n .right) (mark (on && u .left) (n .left) ms)
+
+-- from the last node to the first; i is the place of the first
+unfoldable pub markUsed : List Bool → ℕ → List Node → List Bool
+markUsed ms i [] = ms
+markUsed ms i (n ∷ ns) = markNode (markUsed ms (suc i) ns) i n
+
+abbrev pub markRule : List Bool → Rule → List Bool
+markRule ms r = set ms (r .watched) true
+
+abbrev pub markWatched : List Rule → List Bool
+markWatched rs = foldl markRule (replicate 64 false) rs
+
+-- ---- the second pass: the marked nodes, in order
+abbrev pub keepOf : Build → Bool → Node → Build
+keepOf b on n = pushPlace (pick on (pushNode b (renamed (placesOf b) n)) b) (b .count)
+
+abbrev pub keepBy : List Bool → Build → Node → Build
+keepBy ms b n = keepOf b (getD ms (b .done) false) n

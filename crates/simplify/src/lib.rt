@@ -1,0 +1,436 @@
+// The simplifier of tables: document 01's laws put to use until none fits.
+use table::Node;
+use table::Rule;
+use table::Table;
+ghost use mathlib.Core.Path.{_≡_};
+ghost use mathlib.Core.Bool.{false};
+ghost use mathlib.Core.List.{map, foldl};
+ghost use Prim.Native.Nat.{_+_, _≤_, _<_};
+ghost use lib.ListN.{getD, take};
+ghost use Rattle.table.specs.Nodes.{opOf};
+ghost use Rattle.table.specs.Sound.{Sound};
+ghost use Rattle.simplify.specs.Law.{nodeIn, sameNode, constant, merged, overOne, isInside, leftStays, lawNot, lawOne, lawTwo, lawJoin, lawAs};
+ghost use Rattle.simplify.specs.Passes.{find, renamed, renamedRule, noBuild, pushNode, pushPlace, placesOf, nodesOf, enter, applied, stepOf, Space, Bounded, mark, markNode, markUsed, markWatched, keepOf, keepBy};
+ghost use Rattle.simplify.specs.Promise.{Promised};
+
+// What the laws make of a node: it stays, its value stands at a place, or another node has its value.
+enum Outcome {
+    Stay,
+    At(u8),
+    Put(Node),
+}
+
+// New nodes, and the new place of each old node so far.
+struct Build {
+    nodes: [Node; 64],
+    count: usize,
+    places: [u8; 64],
+    done: usize,
+}
+
+// A mark for each node that is used.
+struct Marks {
+    on: [bool; 64],
+}
+
+// The simplified table and 0, or the number of a refusal and the table as it came.
+pub struct Simplified {
+    pub number: u8,
+    pub table: Table,
+}
+
+fn same_node(a: Node, b: Node) -> bool
+    ensures { λ r. ⌜ r ≡ sameNode a b ⌝ }
+{
+    (a.kind == b.kind)
+        & (a.arg == b.arg)
+        & (a.lo == b.lo)
+        & (a.hi == b.hi)
+        & (a.left == b.left)
+        & (a.right == b.right)
+}
+
+fn constant(kind: u8) -> Node
+    ensures { λ r. ⌜ r ≡ constant kind ⌝ }
+{
+    Node {
+        kind: kind,
+        arg: 0,
+        lo: 0,
+        hi: 0,
+        left: 0,
+        right: 0,
+    }
+}
+
+// F F as one F, G G as one G.
+fn merged(n: Node, l: Node) -> Node
+    requires { ⌜ (n .lo + l .lo < 65536) × (n .hi + l .hi < 65536) ⌝ }
+    ensures { λ r. ⌜ r ≡ merged n l ⌝ }
+{
+    Node {
+        kind: n.kind,
+        arg: 0,
+        lo: n.lo + l.lo,
+        hi: n.hi + l.hi,
+        left: l.left,
+        right: 0,
+    }
+}
+
+fn law_not(l: Node) -> Outcome
+    ensures { λ v. ⌜ v ≡ lawNot l ⌝ }
+{
+    if l.kind == 4 {
+        return Outcome::At(l.left);
+    }
+    if l.kind == 2 {
+        return Outcome::Put(constant(3));
+    }
+    if l.kind == 3 {
+        return Outcome::Put(constant(2));
+    }
+    Outcome::Stay
+}
+
+// F, and G: `fixed` is the constant that it leaves as it is.
+fn law_one(fixed: u8, n: Node, l: Node) -> Outcome
+    requires { ⌜ (n .lo + l .lo < 65536) × (n .hi + l .hi < 65536) ⌝ }
+    ensures { λ v. ⌜ v ≡ lawOne fixed n l ⌝ }
+{
+    if (n.hi == 0) | (l.kind == fixed) {
+        return Outcome::At(n.left);
+    }
+    if l.kind == n.kind {
+        return Outcome::Put(merged(n, l));
+    }
+    Outcome::Stay
+}
+
+// U, and R: `fixed` is the constant on the right that it leaves as it is.
+fn law_two(fixed: u8, n: Node, r: Node) -> Outcome
+    ensures { λ v. ⌜ v ≡ lawTwo fixed n r ⌝ }
+{
+    if (n.hi == 0) | (r.kind == fixed) {
+        return Outcome::At(n.right);
+    }
+    Outcome::Stay
+}
+
+fn over_one(kind: u8, l: Node, r: Node) -> bool
+    ensures { λ b. ⌜ b ≡ overOne kind l r ⌝ }
+{
+    (l.kind == kind) & (r.kind == kind) & (l.left == r.left)
+}
+
+fn is_inside(l: Node, r: Node) -> bool
+    ensures { λ b. ⌜ b ≡ isInside l r ⌝ }
+{
+    (r.lo <= l.lo) & (l.hi <= r.hi)
+}
+
+// The left operand l has the value of both.
+fn left_stays(neutral: u8, absorbing: u8, inner: u8, outer: u8, l: Node, r: Node) -> bool
+    ensures { λ b. ⌜ b ≡ leftStays neutral absorbing inner outer l r ⌝ }
+{
+    (r.kind == neutral)
+        | (l.kind == absorbing)
+        | (over_one(inner, l, r) & is_inside(l, r))
+        | (over_one(outer, l, r) & is_inside(r, l))
+}
+
+// And, and or: the constants that it drops and that it becomes, the kinds of which the inner and the outer interval stays.
+fn law_join(neutral: u8, absorbing: u8, inner: u8, outer: u8, n: Node, l: Node, r: Node) -> Outcome
+    ensures { λ v. ⌜ v ≡ lawJoin neutral absorbing inner outer n l r ⌝ }
+{
+    if (n.left == n.right) | left_stays(neutral, absorbing, inner, outer, l, r) {
+        return Outcome::At(n.left);
+    }
+    if left_stays(neutral, absorbing, inner, outer, r, l) {
+        return Outcome::At(n.right);
+    }
+    Outcome::Stay
+}
+
+// What the laws make of the node n over the operands l and r.
+fn law(n: Node, l: Node, r: Node) -> Outcome
+    requires { ⌜ (n .lo + l .lo < 65536) × (n .hi + l .hi < 65536) ⌝ }
+    ensures { λ v. ⌜ v ≡ lawAs n l r (opOf (n .kind)) ⌝ }
+{
+    let stay = Outcome::Stay;
+    let laws = [
+        stay,
+        stay,
+        stay,
+        stay,
+        law_not(l),
+        law_join(2, 3, 7, 8, n, l, r),
+        law_join(3, 2, 8, 7, n, l, r),
+        law_one(3, n, l),
+        law_one(2, n, l),
+        law_two(3, n, r),
+        law_two(2, n, r),
+    ];
+    let k = n.kind as usize;
+    if k < 11 { laws[k] } else { stay }
+}
+
+fn no_build() -> Build
+    ensures { λ r. ⌜ r ≡ noBuild ⌝ }
+{
+    let none = constant(0);
+    let nodes = [none; 64];
+    Build {
+        nodes: nodes,
+        count: 0,
+        places: [0u8; 64],
+        done: 0,
+    }
+}
+
+// The first of `count` nodes that equals `n`, or `count`.
+fn find(nodes: [Node; 64], count: usize, n: Node) -> usize
+    requires { ⌜ count ≤ 64 ⌝ }
+    ensures { λ r. ⌜ r ≡ find (take count nodes) n ⌝ }
+{
+    let mut i: usize = 0;
+    while i < count {
+        if same_node(nodes[i], n) {
+            return i;
+        }
+        i += 1;
+    }
+    i
+}
+
+fn node_at(nodes: [Node; 64], at: u8) -> Node
+    ensures { λ r. ⌜ r ≡ nodeIn nodes at ⌝ }
+{
+    let k = at as usize;
+    if k < 64 { nodes[k] } else { constant(0) }
+}
+
+// The new place of an old one, and 0 for any other.
+fn place_of(b: Build, at: u8) -> u8
+    requires { ⌜ b .done ≤ 64 ⌝ }
+    ensures { λ r. ⌜ r ≡ getD (placesOf b) at 0 ⌝ }
+{
+    let k = at as usize;
+    let done = b.done;
+    if k < done { b.places[k] } else { 0 }
+}
+
+// A node over the new places of its operands.
+fn renamed(b: Build, n: Node) -> Node
+    requires { ⌜ b .done ≤ 64 ⌝ }
+    ensures { λ r. ⌜ r ≡ renamed (placesOf b) n ⌝ }
+{
+    Node {
+        kind: n.kind,
+        arg: n.arg,
+        lo: n.lo,
+        hi: n.hi,
+        left: place_of(b, n.left),
+        right: place_of(b, n.right),
+    }
+}
+
+fn push_node(mut b: Build, n: Node) -> Build
+    requires { ⌜ b .count < 64 ⌝ }
+    ensures { λ r. ⌜ r ≡ pushNode b n ⌝ }
+{
+    let at = b.count;
+    b.nodes[at] = n;
+    b.count = at + 1;
+    b
+}
+
+fn push_place(mut b: Build, place: u8) -> Build
+    requires { ⌜ b .done < 64 ⌝ }
+    ensures { λ r. ⌜ r ≡ pushPlace b place ⌝ }
+{
+    let at = b.done;
+    b.places[at] = place;
+    b.done = at + 1;
+    b
+}
+
+// The place of an equal node, or of n as one more node.
+fn enter(b: Build, n: Node) -> Build
+    requires { ⌜ Space b ⌝ }
+    ensures { λ r. ⌜ r ≡ enter b n ⌝ }
+{
+    let nodes = b.nodes;
+    let at = find(nodes, b.count, n);
+    if at < b.count {
+        return push_place(b, at as u8);
+    }
+    push_place(push_node(b, n), at as u8)
+}
+
+fn apply(b: Build, n: Node, v: Outcome) -> Build
+    requires { ⌜ Space b ⌝ }
+    ensures { λ r. ⌜ r ≡ applied b n v ⌝ }
+{
+    match v {
+        Outcome::Stay => enter(b, n),
+        Outcome::At(p) => push_place(b, p),
+        Outcome::Put(m) => enter(b, m),
+    }
+}
+
+// One old node more, under the laws.
+fn step(b: Build, n: Node) -> Build
+    requires { ⌜ Space b × Bounded b n ⌝ }
+    ensures { λ r. ⌜ r ≡ stepOf b n ⌝ }
+{
+    let m = renamed(b, n);
+    let nodes = b.nodes;
+    let v = law(m, node_at(nodes, m.left), node_at(nodes, m.right));
+    apply(b, m, v)
+}
+
+fn rebuild(t: Table) -> Build
+    requires { ⌜ Sound t ⌝ }
+    ensures { λ r. ⌜ r ≡ foldl stepOf noBuild (take (t .«node_count») (t .nodes)) ⌝ }
+{
+    let count = t.node_count;
+    let mut b = no_build();
+    let mut i: usize = 0;
+    while i < count {
+        b = step(b, t.nodes[i]);
+        i += 1;
+    }
+    b
+}
+
+fn mark(m: Marks, yes: bool, at: u8) -> Marks
+    ensures { λ r. ⌜ r .on ≡ mark yes at (m .on) ⌝ }
+{
+    let k = at as usize;
+    let mut out = m;
+    if yes {
+        if k < 64 {
+            out.on[k] = true;
+            return out;
+        }
+    }
+    out
+}
+
+// Where the node n at place i is marked, its operands are.
+fn mark_node(m: Marks, i: usize, n: Node) -> Marks
+    requires { ⌜ i < 64 ⌝ }
+    ensures { λ r. ⌜ r .on ≡ markNode (m .on) i n ⌝ }
+{
+    let on = m.on[i];
+    let uses = table::uses_of(n.kind);
+    let half = mark(m, on & uses.left, n.left);
+    mark(half, on & uses.right, n.right)
+}
+
+// From the last node to the first, the operands of the marked.
+fn mark_used(seed: Marks, nodes: [Node; 64], count: usize) -> Marks
+    requires { ⌜ count ≤ 64 ⌝ }
+    ensures { λ r. ⌜ r .on ≡ markUsed (seed .on) 0 (take count nodes) ⌝ }
+{
+    let mut m = seed;
+    let mut i = count;
+    while 0 < i {
+        i -= 1;
+        m = mark_node(m, i, nodes[i]);
+    }
+    m
+}
+
+fn mark_watched(rules: [Rule; 8], count: usize) -> Marks
+    requires { ⌜ count ≤ 8 ⌝ }
+    ensures { λ r. ⌜ r .on ≡ markWatched (take count rules) ⌝ }
+{
+    let mut m = Marks { on: [false; 64] };
+    let mut i: usize = 0;
+    while i < count {
+        m = mark(m, true, rules[i].watched);
+        i += 1;
+    }
+    m
+}
+
+fn keep(b: Build, yes: bool, n: Node) -> Build
+    requires { ⌜ Space b ⌝ }
+    ensures { λ r. ⌜ r ≡ keepOf b yes n ⌝ }
+{
+    let at = b.count;
+    if yes {
+        return push_place(push_node(b, renamed(b, n)), at as u8);
+    }
+    push_place(b, at as u8)
+}
+
+// The marked nodes, in order.
+fn sweep(m: Marks, nodes: [Node; 64], count: usize) -> Build
+    requires { ⌜ count ≤ 64 ⌝ }
+    ensures { λ r. ⌜ r ≡ foldl (keepBy (m .on)) noBuild (take count nodes) ⌝ }
+{
+    let mut b = no_build();
+    let mut i: usize = 0;
+    while i < count {
+        b = keep(b, m.on[i], nodes[i]);
+        i += 1;
+    }
+    b
+}
+
+fn renamed_rule(b: Build, r: Rule) -> Rule
+    requires { ⌜ b .done ≤ 64 ⌝ }
+    ensures { λ s. ⌜ s ≡ renamedRule (placesOf b) r ⌝ }
+{
+    Rule {
+        name: r.name,
+        watched: place_of(b, r.watched),
+    }
+}
+
+fn renamed_rules(b: Build, rules: [Rule; 8]) -> [Rule; 8]
+    requires { ⌜ b .done ≤ 64 ⌝ }
+    ensures { λ r. ⌜ r ≡ map (renamedRule (placesOf b)) rules ⌝ }
+{
+    let mut out = rules;
+    let mut i: usize = 0;
+    while i < 8 {
+        out[i] = renamed_rule(b, rules[i]);
+        i += 1;
+    }
+    out
+}
+
+// Two passes: the nodes anew, each under the laws and looked up among the new ones; then the nodes that a rule needs.
+// Each pass takes a node once, and one look-up compares it with at most all new nodes, so the cost is at most
+// quadratic in the nodes.
+pub fn simplify(t: Table) -> Simplified
+    ensures { λ r. ⌜ Promised t r ⌝ }
+{
+    if !table::sound(t) {
+        return Simplified {
+            number: 25,
+            table: t,
+        };
+    }
+    let first = rebuild(t);
+    let nodes = first.nodes;
+    let old_rules = t.rules;
+    let rules = renamed_rules(first, old_rules);
+    let marks = mark_used(mark_watched(rules, t.rule_count), nodes, first.count);
+    let second = sweep(marks, nodes, first.count);
+    let kept = second.nodes;
+    let table = Table {
+        nodes: kept,
+        node_count: second.count,
+        rules: renamed_rules(second, rules),
+        rule_count: t.rule_count,
+    };
+    Simplified {
+        number: 0,
+        table: table,
+    }
+}

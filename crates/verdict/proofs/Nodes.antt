@@ -1,0 +1,168 @@
+-- The column of a node is its formula's verdicts. Assumes nothing.
+use mathlib.Core.Path.{_≡_, refl, sym, ap, ap₂, _∙_, subst}
+use mathlib.Core.Logic.{⊎-elim}
+use mathlib.Core.Bool.{Bool, true, false, not, _||_, _&&_, false≢true, and-true, and-false}
+use mathlib.Core.List.{List}
+use Prim.Native.Nat.{ℕ, zero, suc, _+_, _*_, _≤_, _<_}
+use native.Mathlib.Omega.{arith}
+use borrow.Author.Tests.{lt-ltb, le-ltb, ne-eqb}
+use lib.Dec.{ltb, eqb}
+use lib.ListN.{length, getD, List·getD-eq-default}
+use Rattle.lists.specs.Bits.{bit, bitAt, words, pack, packed, below}
+use Rattle.lists.specs.Choice.{pick}
+use Rattle.lists.proofs.Tests.{lt-or-le}
+use Rattle.lists.proofs.Bits.{bit-none}
+use Rattle.lists.proofs.Columns.{pack-ext}
+use Rattle.mltl.specs.Mltl.{Formula, holds, eventually, until, opposite, always, release}
+use Rattle.mltl.proofs.Operators.{ever, eventually-at, until-past}
+use Rattle.column.specs.Column.{flipped, filled}
+use Rattle.column.proofs.Registers.{bitAt-pack-all}
+use Rattle.table.specs.Nodes.{Op, Unknown, Signal, Top, Bottom, Not, And, Or, Finally, Globally, Until, Release, opOf, usesOf, formulaAs}
+use Rattle.table.specs.Sound.{fits}
+use Rattle.table.specs.declared.Node.{Node}
+use Rattle.table.specs.declared.Uses.{Uses}
+use Rattle.table.proofs.Soundness.{fits-iff}
+use Rattle.verdict.specs.Steps.{nodeColumn, Place, Computable}
+use Rattle.verdict.proofs.Windows.{until-same}
+
+-- ---- columns of n bits
+pub below-past : (n : ℕ) (f : ℕ → Bool) (t : ℕ) → n ≤ t → below n f t ≡ false
+below-past n f t h = rw (le-ltb t n h)
+
+pub below-in : (n : ℕ) (f : ℕ → Bool) (t : ℕ) → t < n → below n f t ≡ f t
+below-in n f t h = rw (lt-ltb t n h)
+
+pub bitAt-packed : (n : ℕ) (f : ℕ → Bool) (t : ℕ) → bitAt (packed n f) t ≡ below n f t
+unfolding packed
+bitAt-packed n f = bitAt-pack-all (words n) (below n f) (λ t h. below-past n f t (omega arith))
+
+-- ---- a node that keeps its limits, by the fields that its kind uses
+pub record Fitting (u : Uses) (i : ℕ) (x : Node) : Type 0 where
+  pub ordered : x .lo ≤ x .hi
+  pub interval : u .interval ≡ true → x .hi < 4096
+  pub left : u .left ≡ true → x .left < i
+  pub right : u .right ≡ true → x .right < i
+
+pub fit-as : (k i : ℕ) (x : Node) → x .kind ≡ k → fits i x ≡ true → Fitting (usesOf (opOf k)) i x
+fit-as k i x e h =
+    let f = fits-iff i x .0 h in
+    subst (λ (j : ℕ). Fitting (usesOf (opOf j)) i x) e
+    (record { ordered = f .ordered; interval = f .interval .limited; left = f .left .limited; right = f .right .limited })
+
+-- ---- the operators on columns that end at n
+pub until-below : (n N lo hi : ℕ) (a b A B : ℕ → Bool) → n ≤ N → ((i : ℕ) → i < n → a i ≡ A i) → ((i : ℕ) → i < n → b i ≡ B i)
+    → ((i : ℕ) → n ≤ i → b i ≡ false) → (t : ℕ) → until N lo hi a b t ≡ below n (until n lo hi A B) t
+until-below n N lo hi a b A B h e f z t =
+    until-same n N lo hi a b A B h (λ i l r. ⊎-elim (λ (k : i < n). k) (λ (k : n ≤ i). absurd (false≢true (sym (z i k) ∙ r))) (lt-or-le i n)) e f t
+    ∙ ⊎-elim (λ (l : t < n). sym (below-in n (until n lo hi A B) t l))
+    (λ (l : n ≤ t). until-past n lo hi A B t (omega arith) ∙ sym (below-past n (until n lo hi A B) t l)) (lt-or-le t n)
+
+pub eventually-below : (n N lo hi : ℕ) (b B : ℕ → Bool) → n ≤ N → ((i : ℕ) → i < n → b i ≡ B i) → ((i : ℕ) → n ≤ i → b i ≡ false)
+    → (t : ℕ) → eventually N lo hi b t ≡ below n (eventually n lo hi B) t
+eventually-below n N lo hi b B h f z t =
+    eventually-at N lo hi b t ∙ until-below n N lo hi (ever true) b (ever true) B h (λ i l. refl) f z t
+    ∙ ap (λ (x : Bool). ltb t n && x) (sym (eventually-at n lo hi B t))
+
+and-twice : (l a : Bool) → l && not (l && a) ≡ l && not a
+and-twice true a = refl
+and-twice false a = refl
+
+and-and : (l a b : Bool) → (l && a) && (l && b) ≡ l && (a && b)
+and-and true a b = refl
+and-and false a b = refl
+
+or-and : (l a b : Bool) → (l && a) || (l && b) ≡ l && (a || b)
+or-and true a b = refl
+or-and false a b = refl
+
+module _ (n : ℕ) (A : ℕ → Bool) {C : List ℕ} (e : C ≡ packed n A) where
+  pub own : (t : ℕ) → bitAt C t ≡ below n A t
+  own t = ap (λ (l : List ℕ). bitAt l t) e ∙ bitAt-packed n A t
+
+  own-in : (t : ℕ) → t < n → bitAt C t ≡ A t
+  own-in t h = own t ∙ below-in n A t h
+
+  own-past : (t : ℕ) → n ≤ t → bitAt C t ≡ false
+  own-past t h = own t ∙ below-past n A t h
+
+  pub turned : (t : ℕ) → flipped n C t ≡ below n (opposite A) t
+  unfolding opposite
+  turned t = ap (λ (b : Bool). ltb t n && not b) (own t) ∙ and-twice (ltb t n) (A t)
+
+  turned-in : (t : ℕ) → t < n → flipped n C t ≡ opposite A t
+  turned-in t h = turned t ∙ below-in n (opposite A) t h
+
+  turned-past : (t : ℕ) → n ≤ t → flipped n C t ≡ false
+  turned-past t h = turned t ∙ below-past n (opposite A) t h
+
+opposite-below : (n : ℕ) (f g : ℕ → Bool) → ((t : ℕ) → f t ≡ below n g t) → (t : ℕ) → below n (opposite f) t ≡ below n (opposite g) t
+unfolding opposite
+opposite-below n f g e t = ap (λ (b : Bool). ltb t n && not b) (e t) ∙ and-twice (ltb t n) (g t)
+
+-- what a node's column is
+module _ (x : Node) (i n : ℕ) (trace : List ℕ) (C D : List ℕ) (fa fb : Formula) (long : n ≡ length trace) where
+  at : (o : Op) → (usesOf o .left ≡ true → C ≡ packed n (holds fa trace)) → (usesOf o .right ≡ true → D ≡ packed n (holds fb trace))
+      → (t : ℕ) → nodeColumn o x n trace C D t ≡ below n (holds (formulaAs o x fa fb) trace) t
+  unfolding holds always release
+  at Unknown l r t = le-ltb t 0 (omega arith) ∙ sym (and-false (ltb t n))
+  at Signal l r t =
+      ⊎-elim
+      (λ (h : t < n). sym (below-in n (λ t. bit (getD trace t 0) (x .arg)) t h))
+      (λ (h : n ≤ t). ap (λ (v : ℕ). bit v (x .arg)) (List·getD-eq-default trace 0 {n = t} (omega arith)) ∙ bit-none (x .arg)
+      ∙ sym (below-past n (λ t. bit (getD trace t 0) (x .arg)) t h))
+      (lt-or-le t n)
+  at Top l r t = sym (and-true (ltb t n))
+  at Bottom l r t = le-ltb t 0 (omega arith) ∙ sym (and-false (ltb t n))
+  at Not l r t = ap (λ (b : Bool). ltb t n && not b) (own n (holds fa trace) (l refl) t) ∙ and-twice (ltb t n) (holds fa trace t)
+  at And l r t = ap₂ _&&_ (own n (holds fa trace) (l refl) t) (own n (holds fb trace) (r refl) t) ∙ and-and (ltb t n) (holds fa trace t) (holds fb trace t)
+  at Or l r t = ap₂ _||_ (own n (holds fa trace) (l refl) t) (own n (holds fb trace) (r refl) t) ∙ or-and (ltb t n) (holds fa trace t) (holds fb trace t)
+  at Finally l r t =
+      let A : ℕ → Bool = holds fa trace in
+      eventually-below n (64 * words n) (x .lo) (x .hi) (bitAt C) A (omega arith) (own-in n A (l refl)) (own-past n A (l refl)) t
+      ∙ ap (λ (m : ℕ). below n (eventually m (x .lo) (x .hi) A) t) long
+  at Globally l r t =
+      let A : ℕ → Bool = holds fa trace in
+      opposite-below n _ (eventually n (x .lo) (x .hi) (opposite A))
+      (eventually-below n (64 * words n) (x .lo) (x .hi) (flipped n C) (opposite A) (omega arith) (turned-in n A (l refl)) (turned-past n A (l refl))) t
+      ∙ ap (λ (m : ℕ). below n (opposite (eventually m (x .lo) (x .hi) (opposite A))) t) long
+  at Until l r t =
+      let A : ℕ → Bool = holds fa trace in
+      let B : ℕ → Bool = holds fb trace in
+      until-below n (64 * words n) (x .lo) (x .hi) (bitAt C) (bitAt D) A B (omega arith) (own-in n A (l refl)) (own-in n B (r refl)) (own-past n B (r refl)) t
+      ∙ ap (λ (m : ℕ). below n (until m (x .lo) (x .hi) A B) t) long
+  at Release l r t =
+      let A : ℕ → Bool = holds fa trace in
+      let B : ℕ → Bool = holds fb trace in
+      opposite-below n _ (until n (x .lo) (x .hi) (opposite A) (opposite B))
+      (until-below n (64 * words n) (x .lo) (x .hi) (flipped n C) (flipped n D) (opposite A) (opposite B) (omega arith) (turned-in n A (l refl))
+      (turned-in n B (r refl)) (turned-past n B (r refl))) t
+      ∙ ap (λ (m : ℕ). below n (opposite (until m (x .lo) (x .hi) (opposite A) (opposite B))) t) long
+
+  pub column-is : (o : Op) → (usesOf o .left ≡ true → C ≡ packed n (holds fa trace)) → (usesOf o .right ≡ true → D ≡ packed n (holds fb trace))
+      → pack (words n) (nodeColumn o x n trace C D) ≡ packed n (holds (formulaAs o x fa fb) trace)
+  unfolding packed
+  column-is o l r = pack-ext (words n) _ _ (λ t h. at o l r t)
+
+-- a kind that is none of these is a constant
+pub other : (k : ℕ) → (k ≡ 1 → ⊥) → (k ≡ 4 → ⊥) → (k ≡ 5 → ⊥) → (k ≡ 6 → ⊥) → (k ≡ 7 → ⊥) → (k ≡ 8 → ⊥) → (k ≡ 9 → ⊥) → (k ≡ 10 → ⊥)
+    → (x : Node) (n : ℕ) (states c d : List ℕ) → _≡_ {A = ℕ → Bool} (filled (pick (eqb k 2) n 0)) (nodeColumn (opOf k) x n states c d)
+other zero a b e f g h i j x n states c d = refl
+other (suc zero) a b e f g h i j x n states c d = absurd (a refl)
+other (suc (suc zero)) a b e f g h i j x n states c d = refl
+other (suc (suc (suc zero))) a b e f g h i j x n states c d = refl
+other (suc (suc (suc (suc zero)))) a b e f g h i j x n states c d = absurd (b refl)
+other (suc (suc (suc (suc (suc zero))))) a b e f g h i j x n states c d = absurd (e refl)
+other (suc (suc (suc (suc (suc (suc zero)))))) a b e f g h i j x n states c d = absurd (f refl)
+other (suc (suc (suc (suc (suc (suc (suc zero))))))) a b e f g h i j x n states c d = absurd (g refl)
+other (suc (suc (suc (suc (suc (suc (suc (suc zero)))))))) a b e f g h i j x n states c d = absurd (h refl)
+other (suc (suc (suc (suc (suc (suc (suc (suc (suc zero))))))))) a b e f g h i j x n states c d = absurd (i refl)
+other (suc (suc (suc (suc (suc (suc (suc (suc (suc (suc zero)))))))))) a b e f g h i j x n states c d = absurd (j refl)
+other (suc (suc (suc (suc (suc (suc (suc (suc (suc (suc (suc k))))))))))) a b e f g h i j x n states c d =
+    ap (λ (z : Bool). filled (pick z n 0)) (ne-eqb (suc (suc (suc (suc (suc (suc (suc (suc (suc (suc (suc k))))))))))) 2 (λ z. omega arith))
+
+pub place-of : {i n : ℕ} {x : Node} {xs : List ℕ} → Computable i n x xs → Place (80 * i) (words n) xs
+place-of c = let i = c .place in let s = c .short in record { node = omega arith; small = omega arith; enough = c .enough }
+
+-- an operand's register lies below the node's
+pub apart : {l i : ℕ} → l < i → 80 * l + 80 ≤ 80 * i
+apart h = omega arith

@@ -1,0 +1,43 @@
+-- `verdict::until_within` meets its contract. The invariant: the registers hold what they do for 2 ^ j bits. Assumes nothing.
+use Prim.Native.Nat.{_*_, _-_, _^_, ℕ, _≤_}
+use native.Mathlib.Nat.{le-antisymm}
+use native.Mathlib.Omega.{arith}
+use mathlib.Core.Path.{_≡_}
+use borrow.Author.Needs.{needs}
+use lib.ListN.{length}
+use Rattle.lists.specs.Bits.{bitAt}
+use Rattle.mltl.specs.Mltl.{until}
+use Rattle.column.proofs.Parts.{part-op}
+use Rattle.column.specs.Column.{met, register, room}
+use Rattle.verdict.proofs.Untils.{Two, all, until-start, until-twice}
+use Rattle.verdict.proofs.until_within.Statement.{statement}
+use Rattle.verdict.proofs.until_within.Tie as tie
+
+abbrev Inv-loop : tie.InvT-loop
+Inv-loop s₀ d k j₀ s j =
+    Two d (length s₀ - d) (until (64 * (length s₀ - d)) 0 (2 ^ j - 1) (bitAt (register d (length s₀ - d) s₀)) (bitAt (register 0 (length s₀ - d) s₀)))
+    (all (2 ^ j) (bitAt (register d (length s₀ - d) s₀))) s₀ s
+    × (j ≤ k)
+
+abbrev μ-loop : tie.MeasureT-loop
+μ-loop s₀ d k j₀ s j = k - j
+
+pub until-within-spec : {M : Type 1} → statement M
+until-within-spec =
+    tie.close
+    (tie.spec Inv-loop μ-loop
+    (λ c. (until-start (search needs) (search needs) (λ j. c .slice-known .given j .fits), search needs))
+    (search needs) (search needs) (search needs) (search needs) (search needs) (search needs) (search needs) (search needs) (search needs) (search needs)
+    (λ c.
+    let r = c .before .before .before .before .before .before in
+    let b = r .before .before .before in
+    let a = b .before .before .args in
+    let m : ℕ = length (a .s .now) - a .d in
+    let long : length (b .loop .s) ≡ length (a .s .now) = b .loop .inv .0 .long in
+    let longer : length (r .reach .last .0) ≡ length (b .loop .s) = r .reach .kept .0 in
+    let e : room (a .d) (b .loop .s) ≡ m = omega arith in
+    let e′ : length (r .reach .last .0) - a .d ≡ m = omega arith in
+    let p = part-op (met _) (a .d) (length (r .reach .last .0) - a .d) m (r .reach .last .0) e′ (omega arith) (c .before .before .meet-moved .ensures) in
+    (until-twice (omega arith) (omega arith) (b .loop .j) (omega arith) (b .loop .inv .0) (rw e at (r .reach .ensures)) p, search needs))
+    (λ c. c .before .loop .inv .0 .long)
+    (λ c. rw (← le-antisymm (c .before .loop .inv .1) (c .loop-test .left)) (c .before .loop .inv .0 .one)))

@@ -1,0 +1,105 @@
+-- The registers of the nodes: node i's is the part of the scratch from 80 * i on, and two more to work in follow the 64th. What the functions that write
+-- them leave there.
+use mathlib.Core.Path.{_≡_}
+use mathlib.Core.Bool.{Bool, true, false, _||_, _&&_}
+use mathlib.Core.List.{List}
+use Prim.Native.Nat.{ℕ, _+_, _-_, _*_, _≤_, _<_}
+use lib.ListN.{length, getD, take, drop}
+use Rattle.lists.specs.Bits.{words, bitAt, pack, packed, below}
+use Rattle.mltl.specs.Mltl.{holds, eventually, opposite}
+use Rattle.column.specs.Column.{register, filled, flipped, both, signalColumn}
+use Rattle.table.specs.Nodes.{Op, Unknown, Signal, Top, Bottom, Not, And, Or, Finally, Globally, Until, Release, opOf, usesOf, noNode, formulaAt}
+use Rattle.table.specs.Sound.{fits}
+use Rattle.table.specs.declared.Node.{Node}
+use Rattle.verdict.specs.Windows.{untilOf, releaseOf}
+
+-- a node's register at b, of which m words are used, in a scratch with room for all
+pub record Place (b m : ℕ) (xs : List ℕ) : Type 0 where
+  pub node : b ≤ 5040
+  pub small : m ≤ 80
+  pub enough : 5280 ≤ length xs
+
+-- the registers at a and b
+pub record Operand (a b m : ℕ) (xs : List ℕ) : Type 0 where
+  pub before : a + 80 ≤ b
+  pub small : m ≤ 80
+  pub enough : b + 80 ≤ length xs
+
+-- ys holds the column f in its register at b; below b, and from 5,280 on, it is xs
+pub record Step (b m : ℕ) (f : ℕ → Bool) (xs ys : List ℕ) : Type 0 where
+  pub here : register b m ys ≡ pack m f
+  pub low : take b ys ≡ take b xs
+  pub high : drop 5280 ys ≡ drop 5280 xs
+
+-- a step where `on`, and nothing where not
+pub record Maybe (on : Bool) (b m : ℕ) (f : ℕ → Bool) (xs ys : List ℕ) : Type 0 where
+  pub step : on ≡ true → Step b m f xs ys
+  pub stay : on ≡ false → ys ≡ xs
+
+-- the column of a node by its kind, its operands' registers c and d, and the n states
+abbrev pub nodeColumn : Op → Node → ℕ → List ℕ → List ℕ → List ℕ → ℕ → Bool
+nodeColumn Unknown x n states c d = filled 0
+nodeColumn Signal x n states c d = signalColumn (x .arg) states
+nodeColumn Top x n states c d = filled n
+nodeColumn Bottom x n states c d = filled 0
+nodeColumn Not x n states c d = flipped n c
+nodeColumn And x n states c d = both _&&_ c d
+nodeColumn Or x n states c d = both _||_ c d
+nodeColumn Finally x n states c d = eventually (64 * words n) (x .lo) (x .hi) (bitAt c)
+nodeColumn Globally x n states c d = below n (opposite (eventually (64 * words n) (x .lo) (x .hi) (flipped n c)))
+nodeColumn Until x n states c d = untilOf (x .lo) (x .hi) (words n) c d
+nodeColumn Release x n states c d = releaseOf n (x .lo) (x .hi) (words n) c d
+
+-- the column of node x in a scratch xs
+abbrev pub columnIn : Node → ℕ → List ℕ → List ℕ → ℕ → Bool
+columnIn x n states xs = nodeColumn (opOf (x .kind)) x n states (register (80 * x .left) (words n) xs) (register (80 * x .right) (words n) xs)
+
+-- a node that can be computed at place i
+pub record Computable (i n : ℕ) (x : Node) (xs : List ℕ) : Type 0 where
+  pub place : i < 64
+  pub short : n ≤ 5120
+  pub enough : 5280 ≤ length xs
+  pub fitting : fits i x ≡ true
+
+-- ---- marks of the nodes that are needed
+abbrev pub marked : List Bool → ℕ → Bool
+marked marks i = getD marks i false
+
+-- the marks r are the marks m and, where `on`, one at `at` below i
+pub record Grown (i : ℕ) (m : List Bool) (at : ℕ) (on : Bool) (r : List Bool) : Type 0 where
+  pub kept : (j : ℕ) → marked m j ≡ true → marked r j ≡ true
+  pub above : (j : ℕ) → i ≤ j → marked r j ≡ marked m j
+  pub hit : on ≡ true → at < i → marked r at ≡ true
+
+-- of the marked node j an operand that it uses is marked
+abbrev pub Follows : List Bool → ℕ → Bool → ℕ → Type 0
+Follows marks j used operand = marked marks j ≡ true → used ≡ true → operand < j → marked marks operand ≡ true
+
+-- node k is marked, and of each marked node from i to k the operands
+pub record Needs (nodes : List Node) (i k : ℕ) (marks : List Bool) : Type 0 where
+  pub top : marked marks k ≡ true
+  pub left : (j : ℕ) → i ≤ j → j ≤ k → Follows marks j (usesOf (opOf (getD nodes j noNode .kind)) .left) (getD nodes j noNode .left)
+  pub right : (j : ℕ) → i ≤ j → j ≤ k → Follows marks j (usesOf (opOf (getD nodes j noNode .kind)) .right) (getD nodes j noNode .right)
+
+-- the register of each marked one of the first k nodes holds its formula's verdicts, and from 5,280 on ys is xs
+pub record Run (k : ℕ) (nodes : List Node) (marks : List Bool) (trace xs ys : List ℕ) : Type 0 where
+  pub at : (j : ℕ) → j < k → marked marks j ≡ true → register (80 * j) (words (length trace)) ys ≡ packed (length trace) (holds (formulaAt nodes j) trace)
+  pub high : drop 5280 ys ≡ drop 5280 xs
+
+-- the first k nodes can be computed
+pub record Runnable (k : ℕ) (nodes : List Node) (marks : List Bool) (trace xs : List ℕ) : Type 0 where
+  pub some : 0 < k
+  pub places : k ≤ 64
+  pub fitting : (i : ℕ) → i < k → fits i (getD nodes i noNode) ≡ true
+  pub short : length trace ≤ 5120
+  pub enough : 5280 ≤ length xs
+  pub needs : Needs nodes 0 (k - 1) marks
+
+-- the verdicts of node k at the first `count` ticks can be given
+pub record Ready (ns : List Node) (k : ℕ) (trace : List ℕ) (count : ℕ) (scratch out : List ℕ) : Type 0 where
+  pub place : k < 64
+  pub fitting : (i : ℕ) → i < k + 1 → fits i (getD ns i noNode) ≡ true
+  pub short : length trace ≤ 5120
+  pub ticks : count ≤ length trace
+  pub scratch-words : 5280 ≤ length scratch
+  pub out-words : words count ≤ length out

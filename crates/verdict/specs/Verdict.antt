@@ -1,0 +1,57 @@
+-- The verdicts of a formula on a whole trace, as words: bit t is the verdict of tick t, and the unused bits of the last word are clear.
+use Prim.Native.Nat.{ℕ, _+_}
+use mathlib.Core.Path.{_≡_}
+use mathlib.Core.Bool.{Bool, not, _&&_, _||_}
+use mathlib.Core.List.{List, [], _∷_, _++_}
+use lib.Dec.{ltb, leb, eqb}
+use lib.ListN.{length, take, drop, replicate}
+use Rattle.lists.specs.Bits.{words, packed}
+use Rattle.lists.specs.Choice.{pick, _if_, first}
+use Rattle.lists.specs.Sequence.{every}
+use Rattle.mltl.specs.Mltl.{Formula, holds}
+use Rattle.table.specs.Nodes.{formulaAt, watchedFormula}
+use Rattle.table.specs.Sound.{fits, isSound}
+use Rattle.table.specs.declared.Table.{Table}
+
+-- ---- the buffers after an accepted call
+-- the verdicts of the first `count` ticks, and then the later words of out
+abbrev pub told : Formula → List ℕ → ℕ → List ℕ → List ℕ
+told f trace count out = packed count (holds f trace) ++ drop (words count) out
+
+-- the first 5,280 words zero, and then the rest of the scratch
+abbrev pub cleared : List ℕ → List ℕ
+cleared scratch = replicate 5280 0 ++ drop 5280 scratch
+
+-- ---- the formula of the node at place k
+-- every node up to place k keeps the limits at its place
+abbrev pub fitsTo : Table → ℕ → Bool
+fitsTo t k = ltb k 64 && every fits 0 (take (k + 1) (t .nodes))
+
+-- at most 5,120 states, no more verdicts than states, and lent buffers of enough words
+abbrev pub enough : ℕ → ℕ → ℕ → ℕ → Bool
+enough states count scratch out = leb states 5120 && leb count states && leb 5280 scratch && leb (words count) out
+
+unfoldable pub ready : Table → ℕ → List ℕ → ℕ → List ℕ → List ℕ → Bool
+ready t k trace count scratch out = fitsTo t k && enough (length trace) count (length scratch) (length out)
+
+-- the answer tells whether it was ready; where not, both buffers are as they were
+pub record Judged (t : Table) (k : ℕ) (trace : List ℕ) (count : ℕ) (scratch out : List ℕ) (answer : Bool) (scratch′ out′ : List ℕ) : Type 0 where
+  pub answers : answer ≡ ready t k trace count scratch out
+  pub tells : out′ ≡ pick (ready t k trace count scratch out) (told (formulaAt (t .nodes) k) trace count out) out
+  pub clears : scratch′ ≡ pick (ready t k trace count scratch out) (cleared scratch) scratch
+
+-- ---- the formula that a rule watches
+-- 25 a table that is not sound, 21 no such rule, 22 too many states, 23 too few words lent, and else 0
+unfoldable pub numberOf : Table → ℕ → ℕ → ℕ → ℕ → ℕ
+numberOf t rule states scratch out =
+    first
+    ((25 if not (isSound t)) ∷ (21 if leb (t .«rule_count») rule) ∷ (22 if ltb 5120 states) ∷ (23 if (ltb scratch 5280 || ltb out (words states))) ∷ [])
+
+abbrev pub numberFor : Table → ℕ → List ℕ → List ℕ → List ℕ → ℕ
+numberFor t rule states scratch out = numberOf t rule (length states) (length scratch) (length out)
+
+-- the number; where it is not 0, both buffers are as they were
+pub record Answered (t : Table) (rule : ℕ) (states scratch out : List ℕ) (number : ℕ) (scratch′ out′ : List ℕ) : Type 0 where
+  pub answers : number ≡ numberFor t rule states scratch out
+  pub tells : out′ ≡ pick (eqb (numberFor t rule states scratch out) 0) (told (watchedFormula t rule) states (length states) out) out
+  pub clears : scratch′ ≡ pick (eqb (numberFor t rule states scratch out) 0) (cleared scratch) scratch

@@ -1,0 +1,476 @@
+// Whole-trace verdicts: a register of bits for each node that the formula needs, run on words of 64.
+ghost use mathlib.Core.Path.{_≡_};
+ghost use mathlib.Core.Bool.{_&&_, _||_};
+ghost use mathlib.Core.List.{_++_};
+ghost use Prim.Native.Nat.{ℕ, _+_, _-_, _*_, _^_, _≤_, _<_};
+ghost use lib.Dec.{eqb};
+ghost use lib.ListN.{length, getD};
+ghost use lib.Seq.{paste};
+ghost use Rattle.lists.specs.Bits.{bitAt, words, below};
+ghost use Rattle.lists.specs.Choice.{pick};
+ghost use Rattle.mltl.specs.Mltl.{eventually, opposite};
+ghost use Rattle.column.specs.Column.{register, Laid, both, moved, flipped, filled, signalColumn};
+ghost use Rattle.verdict.specs.Verdict.{told, cleared, fitsTo, enough, Judged, Answered};
+ghost use Rattle.table.specs.Nodes.{formulaAt};
+ghost use Rattle.verdict.specs.Windows.{widthOf, Interval, Eventually, Always, First, Pair, third, Three, OfThree, untilOf, releaseOf};
+ghost use Rattle.verdict.specs.Steps.{Place, Operand, Step, Maybe, columnIn, Computable, Grown, Needs, Run, Runnable, Ready};
+use table::Node;
+use table::Table;
+
+// ---- F: one register, the whole slice
+
+// Bit t becomes whether one of the 2 ^ k bits from t on is set.
+fn some_within(s: &mut [u64], k: usize)
+    requires { ⌜ k < 64 ⌝ }
+    ensures { λ _. ⌜ Eventually 0 (2 ^ k - 1) (now (s .entry)) (now (s .exit)) ⌝ }
+{
+    for j in 0..k {
+        column::join_moved(s, 1 << j);
+    }
+}
+
+// The windows are widened by 2 ^ k - 1 bits for each of the first `count` parts k.
+fn widen(s: &mut [u64], ks: [u8; 12], count: usize)
+    requires { ⌜ (count ≤ 12) × ((i : ℕ) → i < count → getD ks i 0 < 64) ⌝ }
+    ensures { λ _. ⌜ Eventually 0 (widthOf count ks) (now (s .entry)) (now (s .exit)) ⌝ }
+{
+    for i in 0..count {
+        let k = ks[i] as usize;
+        some_within(s, k);
+    }
+}
+
+// Bit t becomes whether one of the bits from t + lo to t + hi is set.
+fn some_later(s: &mut [u64], lo: u16, hi: u16)
+    requires { ⌜ Interval lo hi ⌝ }
+    ensures { λ _. ⌜ Eventually lo hi (now (s .entry)) (now (s .exit)) ⌝ }
+{
+    let cut = interval::split(lo, hi);
+    let ks = cut.parts;
+    let count = cut.count;
+    column::move_down(s, lo as usize);
+    widen(s, ks, count);
+}
+
+// Bit t becomes whether all of the bits from t + lo to t + hi that lie below n are set.
+fn all_later(s: &mut [u64], lo: u16, hi: u16, n: usize)
+    requires { ⌜ Interval lo hi ⌝ }
+    ensures { λ _. ⌜ Always lo hi n (now (s .entry)) (now (s .exit)) ⌝ }
+{
+    column::complement(s, n);
+    some_later(s, lo, hi);
+    column::complement(s, n);
+}
+
+// ---- U: the right operand in the first register of a slice, the left one in the second, d words in
+
+// Bit t of the first register becomes whether it is set at one of the 2 ^ k bits from t on, with that of the second set at each before. The second is
+// used up.
+fn until_within(s: &mut [u64], d: usize, k: usize)
+    requires { ⌜ (d ≤ length (now s)) × (length (now s) ≤ d + d) × (k < 64) ⌝ }
+    ensures { λ _. ⌜ First d (length (now (s .entry)) - d) (untilOf 0 (2 ^ k - 1) (length (now (s .entry)) - d) (register d (length (now (s .entry)) - d) (now (s .entry))) (register 0 (length (now (s .entry)) - d) (now (s .entry)))) (now (s .entry)) (now (s .exit)) ⌝ }
+{
+    for j in 0..k {
+        column::reach(s, d, 1 << j);
+        column::meet_moved(&mut s[d..], 1 << j);
+    }
+}
+
+// The next functions take a slice that holds three registers: the first at 0, the second at d, and the third, which is used, 80 words after the second.
+
+// The first register's windows are widened by 2 ^ k - 1 bits for each of the first `count` parts k, where the second is set before.
+fn until_parts(s: &mut [u64], d: usize, ks: [u8; 12], count: usize)
+    requires { ⌜ Three d (now s) ⌝ }
+    requires { ⌜ (count ≤ 12) × ((i : ℕ) → i < count → getD ks i 0 < 64) ⌝ }
+    ensures { λ _. ⌜ OfThree (untilOf 0 (widthOf count ks)) d (now (s .entry)) (now (s .exit)) ⌝ }
+{
+    for i in 0..count {
+        let k = ks[i] as usize;
+        column::copy_into(&mut s[d..], 80);
+        until_within(s, d + 80, k);
+    }
+}
+
+// The first two registers are moved down.
+fn two_down(s: &mut [u64], d: usize, by: usize)
+    requires { ⌜ Three d (now s) ⌝ }
+    ensures { λ _. ⌜ Pair d (third d (now (s .entry))) (moved by) (now (s .entry)) (now (s .exit)) ⌝ }
+{
+    let m = s.len() - (d + 80);
+    let e = d + m;
+    column::move_down(&mut s[0..m], by);
+    column::move_down(&mut s[d..e], by);
+}
+
+// The first n bits of the first two registers are flipped, and the others are clear.
+fn two_flipped(s: &mut [u64], d: usize, n: usize)
+    requires { ⌜ Three d (now s) ⌝ }
+    ensures { λ _. ⌜ Pair d (third d (now (s .entry))) (flipped n) (now (s .entry)) (now (s .exit)) ⌝ }
+{
+    let m = s.len() - (d + 80);
+    let e = d + m;
+    column::complement(&mut s[0..m], n);
+    column::complement(&mut s[d..e], n);
+}
+
+// Bit t of the first register becomes whether it is set at one of the bits from t + lo to t + hi, with that of the second set from t + lo on and before.
+fn until_later(s: &mut [u64], d: usize, lo: u16, hi: u16)
+    requires { ⌜ Three d (now s) ⌝ }
+    requires { ⌜ Interval lo hi ⌝ }
+    ensures { λ _. ⌜ OfThree (untilOf lo hi) d (now (s .entry)) (now (s .exit)) ⌝ }
+{
+    let cut = interval::split(lo, hi);
+    let ks = cut.parts;
+    let count = cut.count;
+    two_down(s, d, lo as usize);
+    until_parts(s, d, ks, count);
+}
+
+// The same of the registers' opposites below n, and its opposite below n.
+fn release_later(s: &mut [u64], d: usize, lo: u16, hi: u16, n: usize)
+    requires { ⌜ Three d (now s) ⌝ }
+    requires { ⌜ Interval lo hi ⌝ }
+    ensures { λ _. ⌜ OfThree (releaseOf n lo hi) d (now (s .entry)) (now (s .exit)) ⌝ }
+{
+    let m = s.len() - (d + 80);
+    two_flipped(s, d, n);
+    until_later(s, d, lo, hi);
+    column::complement(&mut s[0..m], n);
+}
+
+// ---- nodes: registers at a and c of the operands, at b of the node, of which m words are used
+
+// Bit t of the register at b becomes bit t of the register at a.
+fn load(s: &mut [u64], a: usize, b: usize, m: usize)
+    requires { ⌜ Operand a b m (now s) ⌝ }
+    ensures { λ _. ⌜ Laid b m (bitAt (register a m (now (s .entry)))) (now (s .entry)) (now (s .exit)) ⌝ }
+{
+    let e = b + m;
+    column::copy_into(&mut s[a..e], b - a);
+}
+
+// Bit t of the register at b becomes that bit and bit t of the register at a.
+fn and_with(s: &mut [u64], a: usize, b: usize, m: usize)
+    requires { ⌜ Operand a b m (now s) ⌝ }
+    ensures { λ _. ⌜ Laid b m (both _&&_ (register b m (now (s .entry))) (register a m (now (s .entry)))) (now (s .entry)) (now (s .exit)) ⌝ }
+{
+    let e = b + m;
+    column::and_into(&mut s[a..e], b - a);
+}
+
+// Bit t of the register at b becomes that bit or bit t of the register at a.
+fn or_with(s: &mut [u64], a: usize, b: usize, m: usize)
+    requires { ⌜ Operand a b m (now s) ⌝ }
+    ensures { λ _. ⌜ Laid b m (both _||_ (register b m (now (s .entry))) (register a m (now (s .entry)))) (now (s .entry)) (now (s .exit)) ⌝ }
+{
+    let e = b + m;
+    column::or_into(&mut s[a..e], b - a);
+}
+
+fn put_signal(s: &mut [u64], b: usize, m: usize, older: &[u32], newer: &[u32], i: u8)
+    requires { ⌜ Place b m (now s) ⌝ }
+    ensures { λ _. ⌜ Step b m (signalColumn i (now (older .entry) ++ now (newer .entry))) (now (s .entry)) (now (s .exit)) ⌝ }
+{
+    let e = b + m;
+    column::pack_signal(&mut s[b..e], older, newer, i as usize);
+}
+
+fn put_fill(s: &mut [u64], b: usize, m: usize, n: usize)
+    requires { ⌜ Place b m (now s) ⌝ }
+    ensures { λ _. ⌜ Step b m (filled n) (now (s .entry)) (now (s .exit)) ⌝ }
+{
+    let e = b + m;
+    column::fill(&mut s[b..e], n);
+}
+
+fn put_not(s: &mut [u64], a: usize, b: usize, m: usize, n: usize)
+    requires { ⌜ Place b m (now s) × (a + 80 ≤ b) ⌝ }
+    ensures { λ _. ⌜ Step b m (flipped n (register a m (now (s .entry)))) (now (s .entry)) (now (s .exit)) ⌝ }
+{
+    let e = b + m;
+    load(s, a, b, m);
+    column::complement(&mut s[b..e], n);
+}
+
+fn put_and(s: &mut [u64], a: usize, c: usize, b: usize, m: usize)
+    requires { ⌜ Place b m (now s) × (a + 80 ≤ b) × (c + 80 ≤ b) ⌝ }
+    ensures { λ _. ⌜ Step b m (both _&&_ (register a m (now (s .entry))) (register c m (now (s .entry)))) (now (s .entry)) (now (s .exit)) ⌝ }
+{
+    load(s, a, b, m);
+    and_with(s, c, b, m);
+}
+
+fn put_or(s: &mut [u64], a: usize, c: usize, b: usize, m: usize)
+    requires { ⌜ Place b m (now s) × (a + 80 ≤ b) × (c + 80 ≤ b) ⌝ }
+    ensures { λ _. ⌜ Step b m (both _||_ (register a m (now (s .entry))) (register c m (now (s .entry)))) (now (s .entry)) (now (s .exit)) ⌝ }
+{
+    load(s, a, b, m);
+    or_with(s, c, b, m);
+}
+
+fn put_some(s: &mut [u64], a: usize, b: usize, m: usize, lo: u16, hi: u16)
+    requires { ⌜ Place b m (now s) × (a + 80 ≤ b) × Interval lo hi ⌝ }
+    ensures { λ _. ⌜ Step b m (eventually (64 * m) lo hi (bitAt (register a m (now (s .entry))))) (now (s .entry)) (now (s .exit)) ⌝ }
+{
+    let e = b + m;
+    load(s, a, b, m);
+    some_later(&mut s[b..e], lo, hi);
+}
+
+fn put_all(s: &mut [u64], a: usize, b: usize, m: usize, lo: u16, hi: u16, n: usize)
+    requires { ⌜ Place b m (now s) × (a + 80 ≤ b) × Interval lo hi ⌝ }
+    ensures { λ _. ⌜ Step b m (below n (opposite (eventually (64 * m) lo hi (flipped n (register a m (now (s .entry))))))) (now (s .entry)) (now (s .exit)) ⌝ }
+{
+    let e = b + m;
+    load(s, a, b, m);
+    all_later(&mut s[b..e], lo, hi, n);
+}
+
+fn put_until(s: &mut [u64], a: usize, c: usize, b: usize, m: usize, lo: u16, hi: u16)
+    requires { ⌜ Place b m (now s) × (a + 80 ≤ b) × (c + 80 ≤ b) × Interval lo hi ⌝ }
+    ensures { λ _. ⌜ Step b m (untilOf lo hi m (register a m (now (s .entry))) (register c m (now (s .entry)))) (now (s .entry)) (now (s .exit)) ⌝ }
+{
+    let e = 5200 + m;
+    load(s, c, b, m);
+    load(s, a, 5120, m);
+    until_later(&mut s[b..e], 5120 - b, lo, hi);
+}
+
+fn put_release(s: &mut [u64], a: usize, c: usize, b: usize, m: usize, lo: u16, hi: u16, n: usize)
+    requires { ⌜ Place b m (now s) × (a + 80 ≤ b) × (c + 80 ≤ b) × Interval lo hi ⌝ }
+    ensures { λ _. ⌜ Step b m (releaseOf n lo hi m (register a m (now (s .entry))) (register c m (now (s .entry)))) (now (s .entry)) (now (s .exit)) ⌝ }
+{
+    let e = 5200 + m;
+    load(s, c, b, m);
+    load(s, a, 5120, m);
+    release_later(&mut s[b..e], 5120 - b, lo, hi, n);
+}
+
+// How many bits of a constant's column are set: n for true.
+fn bits_of(kind: u8, n: usize) -> usize
+    ensures { λ r. ⌜ r ≡ pick (eqb kind 2) n 0 ⌝ }
+{
+    if kind == 2 { n } else { 0 }
+}
+
+// The column of node x at place i.
+fn node_step(s: &mut [u64], x: Node, i: usize, n: usize, older: &[u32], newer: &[u32])
+    requires { ⌜ Computable i n x (now s) ⌝ }
+    ensures { λ _. ⌜ Step (80 * i) (words n) (columnIn x n (now (older .entry) ++ now (newer .entry)) (now (s .entry))) (now (s .entry)) (now (s .exit)) ⌝ }
+{
+    let m = (n + 63) / 64;
+    let b = 80 * i;
+    let a = 80 * (x.left as usize);
+    let c = 80 * (x.right as usize);
+    let k = x.kind;
+    let lo = x.lo;
+    let hi = x.hi;
+    if k == 1 {
+        put_signal(s, b, m, older, newer, x.arg);
+        return;
+    }
+    if k == 4 {
+        put_not(s, a, b, m, n);
+        return;
+    }
+    if k == 5 {
+        put_and(s, a, c, b, m);
+        return;
+    }
+    if k == 6 {
+        put_or(s, a, c, b, m);
+        return;
+    }
+    if k == 7 {
+        put_some(s, a, b, m, lo, hi);
+        return;
+    }
+    if k == 8 {
+        put_all(s, a, b, m, lo, hi, n);
+        return;
+    }
+    if k == 9 {
+        put_until(s, a, c, b, m, lo, hi);
+        return;
+    }
+    if k == 10 {
+        put_release(s, a, c, b, m, lo, hi, n);
+        return;
+    }
+    put_fill(s, b, m, bits_of(k, n));
+}
+
+// The same, where `on`.
+fn step_if(on: bool, s: &mut [u64], x: Node, i: usize, n: usize, older: &[u32], newer: &[u32])
+    requires { ⌜ Computable i n x (now s) ⌝ }
+    ensures { λ _. ⌜ Maybe on (80 * i) (words n) (columnIn x n (now (older .entry) ++ now (newer .entry)) (now (s .entry))) (now (s .entry)) (now (s .exit)) ⌝ }
+{
+    if on {
+        node_step(s, x, i, n, older, newer);
+    }
+}
+
+// ---- which nodes are needed
+
+// A mark at `at`, where `on` and it is below i.
+fn mark(m: [bool; 64], at: usize, on: bool, i: usize) -> [bool; 64]
+    requires { ⌜ i ≤ 64 ⌝ }
+    ensures { λ r. ⌜ Grown i m at on r ⌝ }
+{
+    if on {
+        if at < i {
+            let mut r = m;
+            r[at] = true;
+            return r;
+        }
+    }
+    m
+}
+
+// The nodes that node k needs, found from k down.
+fn needed(t: Table, k: usize) -> [bool; 64]
+    requires { ⌜ k < 64 ⌝ }
+    ensures { λ r. ⌜ Needs (t .nodes) 0 k r ⌝ }
+{
+    let mut m = [false; 64];
+    m[k] = true;
+    let e = k + 1;
+    for d in 0..e {
+        let i = k - d;
+        let x = t.nodes[i];
+        let u = table::uses_of(x.kind);
+        let l = m[i] & u.left;
+        let r = m[i] & u.right;
+        let next = mark(m, x.left as usize, l, i);
+        m = mark(next, x.right as usize, r, i);
+    }
+    m
+}
+
+// ---- the evaluation
+
+// The columns of the marked ones of the first `upto` nodes.
+fn run(t: Table, marks: [bool; 64], upto: usize, older: &[u32], newer: &[u32], s: &mut [u64])
+    requires { ⌜ Runnable upto (t .nodes) marks (now older ++ now newer) (now s) ⌝ }
+    ensures { λ _. ⌜ Run upto (t .nodes) marks (now (older .entry) ++ now (newer .entry)) (now (s .entry)) (now (s .exit)) ⌝ }
+{
+    let n = older.len() + newer.len();
+    for i in 0..upto {
+        let x = t.nodes[i];
+        step_if(marks[i], s, x, i, n, older, newer);
+    }
+}
+
+// The register at b becomes the first words of `out`.
+fn copy_out(s: &[u64], b: usize, m: usize, out: &mut [u64])
+    requires { ⌜ (b + m ≤ length (now s)) × (m ≤ length (now out)) ⌝ }
+    ensures { λ _. ⌜ now (out .exit) ≡ paste (now (out .entry)) 0 (register b m (now (s .entry))) m ⌝ }
+{
+    for w in 0..m {
+        out[w] = s[b + w];
+    }
+}
+
+// The verdicts of node k at the first `count` ticks, with the scratch cleared.
+fn evaluate(
+    t: Table,
+    k: usize,
+    older: &[u32],
+    newer: &[u32],
+    count: usize,
+    scratch: &mut [u64],
+    out: &mut [u64],
+)
+    requires { ⌜ Ready (t .nodes) k (now older ++ now newer) count (now scratch) (now out) ⌝ }
+    ensures { λ _. ⌜ (now (out .exit) ≡ told (formulaAt (t .nodes) k) (now (older .entry) ++ now (newer .entry)) count (now (out .entry))) × (now (scratch .exit) ≡ cleared (now (scratch .entry))) ⌝ }
+{
+    let m = (count + 63) / 64;
+    let marks = needed(t, k);
+    run(t, marks, k + 1, older, newer, scratch);
+    copy_out(scratch, 80 * k, m, out);
+    column::keep_below(&mut out[0..m], count);
+    column::clear(&mut scratch[0..5280]);
+}
+
+// Whether every node up to place k keeps the limits at its place.
+fn fits_to(t: Table, k: usize) -> bool
+    ensures { λ r. ⌜ r ≡ fitsTo t k ⌝ }
+{
+    if 64 <= k {
+        return false;
+    }
+    let e = k + 1;
+    let mut ok = true;
+    for i in 0..e {
+        ok = ok & table::node_fits(t.nodes[i], i);
+    }
+    ok
+}
+
+// Whether the states are few enough, and enough for the verdicts, and the lent words enough for them.
+fn has_enough(older: usize, newer: usize, count: usize, scratch: usize, out: usize) -> bool
+    ensures { λ r. ⌜ r ≡ enough (older + newer) count scratch out ⌝ }
+{
+    if 5120 < older {
+        return false;
+    }
+    if 5120 - older < newer {
+        return false;
+    }
+    if older + newer < count {
+        return false;
+    }
+    (5280 <= scratch) & ((count + 63) / 64 <= out)
+}
+
+// The verdicts of the node at place k at the first `count` ticks of the trace `older` and then `newer`, which are read where they lie;
+// whether they could be given.
+pub fn judge(
+    t: Table,
+    k: usize,
+    older: &[u32],
+    newer: &[u32],
+    count: usize,
+    scratch: &mut [u64],
+    out: &mut [u64],
+) -> bool
+    ensures { λ r. ⌜ Judged t k (now (older .entry) ++ now (newer .entry)) count (now (scratch .entry)) (now (out .entry)) r (now (scratch .exit)) (now (out .exit)) ⌝ }
+{
+    let fitting = fits_to(t, k);
+    let room = has_enough(older.len(), newer.len(), count, scratch.len(), out.len());
+    if fitting & room {
+        evaluate(t, k, older, newer, count, scratch, out);
+        return true;
+    }
+    false
+}
+
+// The numbers of the refusals.
+const NOT_SOUND: u8 = 25;
+
+const NO_RULE: u8 = 21;
+
+const MANY_STATES: u8 = 22;
+
+const FEW_WORDS: u8 = 23;
+
+// The verdicts of what a rule watches on a whole trace: 0, or the number of the refusal.
+pub fn verdicts(t: Table, rule: usize, states: &[u32], scratch: &mut [u64], out: &mut [u64]) -> u8
+    ensures { λ r. ⌜ Answered t rule (now (states .entry)) (now (scratch .entry)) (now (out .entry)) r (now (scratch .exit)) (now (out .exit)) ⌝ }
+{
+    if !table::sound(t) {
+        return NOT_SOUND;
+    }
+    if t.rule_count <= rule {
+        return NO_RULE;
+    }
+    if 5120 < states.len() {
+        return MANY_STATES;
+    }
+    if (scratch.len() < 5280) | (out.len() < (states.len() + 63) / 64) {
+        return FEW_WORDS;
+    }
+    let k = t.rules[rule].watched as usize;
+    judge(t, k, &states[0..0], states, states.len(), scratch, out);
+    0
+}

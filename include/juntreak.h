@@ -1,0 +1,174 @@
+/*
+ * Juntreak: a monitor for rules of Mission-time Linear Temporal Logic (MLTL).
+ *
+ * Rules for every function:
+ * - Pointers are not null, even where the length beside them is 0, and are
+ *   aligned for their type. Buffers of one call do not overlap.
+ * - Lengths are in elements, not in bytes.
+ * - Multi-byte numbers in tables and sessions are little-endian.
+ * - A call refused with 21 to 25 leaves every buffer unchanged, except that a
+ *   refused juntreak_open writes zeros into its session.
+ * - There is no global state. Calls on different buffers may run in parallel.
+ */
+#ifndef JUNTREAK_H
+#define JUNTREAK_H
+
+#include <stddef.h>
+#include <stdint.h>
+
+#ifdef __cplusplus
+extern "C" {
+#endif
+
+/* Sizes in bytes. */
+#define JUNTREAK_RECORD_BYTES 12   /* one record of a book */
+#define JUNTREAK_TABLE_BYTES 546   /* a table */
+#define JUNTREAK_SESSION_BYTES 558 /* a session */
+#define JUNTREAK_PARTS_BYTES 12    /* the parts of an interval */
+
+/* Sizes in elements. A buffer may be longer. */
+#define JUNTREAK_HISTORY_WORDS 4095 /* least length of history, uint32_t */
+#define JUNTREAK_SCRATCH_WORDS 5280 /* least length of scratch, uint64_t */
+#define JUNTREAK_FEED_WORDS 16      /* least length of out for a feed, uint64_t */
+#define JUNTREAK_CLOSE_WORDS 64     /* least length of out for a close, uint64_t */
+
+/* Limits. */
+#define JUNTREAK_MAX_RECORDS 255  /* records of a book, the head included */
+#define JUNTREAK_MAX_NODES 64     /* nodes of a table */
+#define JUNTREAK_MAX_RULES 8      /* rules of a table */
+#define JUNTREAK_MAX_DELAY 4095   /* delay of a node, upper limit of an interval */
+#define JUNTREAK_MAX_BLOCK 1024   /* states of one feed */
+#define JUNTREAK_MAX_STATES 5120  /* states of a whole trace */
+
+/* Least length of out for a whole trace of n states. */
+#define JUNTREAK_WHOLE_WORDS(n) ((n) / 64 + ((n) % 64 != 0))
+
+/* The numbers that the functions answer, in the order of the checks: the
+ * first that fits is answered. 3 to 10 are tried record by record along the
+ * chain, on the head only 3. */
+enum {
+    JUNTREAK_OK = 0,
+    /* Books, answered with a record. */
+    JUNTREAK_LENGTH = 1,   /* length not 12 * (1..255); record 0 */
+    JUNTREAK_HEAD = 2,     /* head has a byte set beside its next; record 0 */
+    JUNTREAK_LINK = 3,     /* next beyond the book or already passed; the record that links */
+    JUNTREAK_FORM = 4,     /* kind not 1..11, or an unused field or byte 9-11 set */
+    JUNTREAK_ARGUMENT = 5, /* signal above 31, or name 0 */
+    JUNTREAK_INTERVAL = 6, /* lo > hi or hi > 4095; splitting answers it with record 0 */
+    JUNTREAK_OPERAND = 7,  /* operand not an earlier node */
+    JUNTREAK_FULL = 8,     /* 65th node or 9th rule */
+    JUNTREAK_LONG = 9,     /* delay above 4095 */
+    JUNTREAK_NAME = 10,    /* name already used */
+    JUNTREAK_NO_RULE = 11, /* chain ended without a rule; record 0 */
+    /* Tables and sessions. */
+    JUNTREAK_UNSOUND = 25, /* bytes that are no sound table's or no session's */
+    JUNTREAK_RULE = 21,    /* rule number not below the rule count */
+    JUNTREAK_STATES = 22,  /* above 1024 states (feed) or 5120 (whole trace) */
+    JUNTREAK_BUFFER = 23,  /* history, scratch or out too short */
+    JUNTREAK_SEEN = 24     /* seen + k above 4294967295 */
+};
+
+/*
+ * A book is 1 to 255 records of 12 bytes. Byte 0: kind; 1: argument;
+ * 2-3: lo; 4-5: hi; 6: left; 7: right; 8: next; 9-11: zero. Record 0 is the
+ * head, all zero but its next. Kinds: 1 signal, 2 true, 3 false, 4 not,
+ * 5 and, 6 or, 7 F (eventually), 8 G (always), 9 U (until), 10 R (release),
+ * 11 rule (argument: name 1..255; left: watched formula).
+ *
+ * A table is 546 bytes.
+ *   0        count of nodes
+ *   1        count of rules
+ *   2..513   64 nodes of 8 bytes: kind, argument, lo (2), hi (2), left, right;
+ *            operands are places of nodes
+ *   514..545 8 rules of 4 bytes: name (2), place of the watched node, zero
+ * Free places are zero. A table is sound if a book could have yielded it.
+ *
+ * A session is 558 bytes.
+ *   0..545   its table
+ *   546..549 the rule number
+ *   550..557 seen, the count of states fed, at most 4294967295
+ *
+ * Verdicts in out: verdict i is bit i % 64 of word i / 64.
+ */
+
+/* Checks a book of n bytes. Answers 0 if it is accepted, otherwise
+ * number + 256 * record, numbers 1 to 11. */
+uint32_t juntreak_check_book(const uint8_t *book, size_t n);
+
+/* Reads a book of n bytes. Answers as juntreak_check_book does. The table is
+ * written: the book's if it is accepted, otherwise zeros. */
+uint32_t juntreak_read(const uint8_t *book, size_t n,
+                       uint8_t table[JUNTREAK_TABLE_BYTES]);
+
+/* The delay of a rule. Answers number + 65536 * delay, numbers 0, 25, 21;
+ * the delay is 0 if refused. */
+uint32_t juntreak_delay(const uint8_t table[JUNTREAK_TABLE_BYTES],
+                        uint32_t rule);
+
+/* Splits the interval [lo, hi]. Answers number + 256 * count, numbers 0 and
+ * 6. The parts are written: hi - lo is the sum of 2^k - 1 over the first
+ * count numbers k, largest first; the other places are zero, as are all
+ * places and the count if refused. */
+uint32_t juntreak_split(uint16_t lo, uint16_t hi,
+                        uint8_t parts[JUNTREAK_PARTS_BYTES]);
+
+/* The verdicts of a rule on a whole trace of n states, n at most 5120; bit s
+ * of a state is signal s. x is the length of scratch, at least 5280; o that
+ * of out, at least JUNTREAK_WHOLE_WORDS(n). Answers the number: 0, 25, 21,
+ * 22, 23. If it is 0, the verdict of tick t is bit t % 64 of word t / 64 of
+ * out, the unused bits of the last such word are zero, later words are
+ * unchanged; the first 5280 words of scratch are zero, the others unchanged. */
+uint32_t juntreak_verdicts(const uint8_t table[JUNTREAK_TABLE_BYTES],
+                           uint32_t rule, const uint32_t *states, size_t n,
+                           uint64_t *scratch, size_t x,
+                           uint64_t *out, size_t o);
+
+/* Simplifies a table in place. Answers the number: 0, or 25 with the table
+ * unchanged. If it is 0, every verdict of every rule on every trace is as
+ * before, rule order and names too; no delay and no count is larger; the
+ * result is sound, and a table that no law fits stays as it is. */
+uint32_t juntreak_simplify(uint8_t table[JUNTREAK_TABLE_BYTES]);
+
+/* Opens a session on a rule, with no state seen. Answers the number: 0, 25,
+ * 21. The session is written: zeros if refused. */
+uint32_t juntreak_open(const uint8_t table[JUNTREAK_TABLE_BYTES],
+                       uint32_t rule, uint8_t session[JUNTREAK_SESSION_BYTES]);
+
+/* Feeds a block of k states, k at most 1024. D is the delay of the session's
+ * rule. The caller lends the same history to every call on a session; its
+ * first min(seen, D) places hold the last states fed, oldest first, and at
+ * the start it may hold anything. h, x and o are the lengths of history,
+ * scratch and out, at least 4095, 5280 and 16.
+ * Answers number + 2^32 * count, numbers 0, 25, 22, 23, 24; the count is 0
+ * if refused. If the number is 0:
+ * - the count is max(0, seen + k - D) - max(0, seen - D), and out begins with
+ *   the verdicts of so many further ticks; the unused bits of the first 16
+ *   words are zero, later words are unchanged;
+ * - history's first min(seen + k, D) places hold the last states fed, its
+ *   other places are unchanged;
+ * - the first 5280 words of scratch are zero, the others unchanged;
+ * - seen in the session has grown by k. */
+uint64_t juntreak_feed(uint8_t session[JUNTREAK_SESSION_BYTES],
+                       const uint32_t *block, size_t k,
+                       uint32_t *history, size_t h,
+                       uint64_t *scratch, size_t x,
+                       uint64_t *out, size_t o);
+
+/* Ends the trace. h, x and o are at least 4095, 5280 and 64.
+ * Answers number + 2^32 * count, numbers 0, 25, 23; the count is 0 if
+ * refused. If the number is 0:
+ * - the count is min(seen, D), and out begins with the verdicts of the last
+ *   so many ticks; the unused bits of the first 64 words are zero, later
+ *   words are unchanged;
+ * - the first 5280 words of scratch are zero, the others unchanged;
+ * - seen in the session is 0. */
+uint64_t juntreak_close(uint8_t session[JUNTREAK_SESSION_BYTES],
+                        const uint32_t *history, size_t h,
+                        uint64_t *scratch, size_t x,
+                        uint64_t *out, size_t o);
+
+#ifdef __cplusplus
+}
+#endif
+
+#endif

@@ -1,0 +1,8 @@
+// Links the static library that `rt staticlib capi` writes.
+fn main() {
+    let here = std::env::var("CARGO_MANIFEST_DIR").unwrap();
+    let lib = format!("{here}/../target/staticlib");
+    println!("cargo:rustc-link-search=native={lib}");
+    println!("cargo:rustc-link-lib=static=capi");
+    println!("cargo:rerun-if-changed={lib}/libcapi.a");
+}

@@ -1,0 +1,76 @@
+//! Safe wrappers of the exported functions; include/juntreak.h declares the same.
+
+pub const TABLE: usize = 546;
+pub type TableBytes = [u8; TABLE];
+pub const SESSION: usize = 558;
+pub type SessionBytes = [u8; SESSION];
+
+mod raw {
+    extern "C" {
+        pub fn juntreak_check_book(book: *const u8, n: usize) -> u32;
+        pub fn juntreak_read(book: *const u8, n: usize, table: *mut [u8; 546]) -> u32;
+        pub fn juntreak_delay(table: *const [u8; 546], rule: u32) -> u32;
+        pub fn juntreak_split(lo: u16, hi: u16, parts: *mut [u8; 12]) -> u32;
+        pub fn juntreak_verdicts(table: *const [u8; 546], rule: u32, states: *const u32, n: usize, scratch: *mut u64, x: usize, out: *mut u64, o: usize) -> u32;
+        pub fn juntreak_simplify(table: *mut [u8; 546]) -> u32;
+        pub fn juntreak_open(table: *const [u8; 546], rule: u32, session: *mut [u8; 558]) -> u32;
+        pub fn juntreak_feed(session: *mut [u8; 558], block: *const u32, k: usize, history: *mut u32, h: usize, scratch: *mut u64, x: usize, out: *mut u64, o: usize) -> u64;
+        pub fn juntreak_close(session: *mut [u8; 558], history: *const u32, h: usize, scratch: *mut u64, x: usize, out: *mut u64, o: usize) -> u64;
+    }
+}
+
+pub fn check_book(book: &[u8]) -> u32 {
+    unsafe { raw::juntreak_check_book(book.as_ptr(), book.len()) }
+}
+
+/// The number, the record, and the table, into a buffer that held `dirt`.
+pub fn read(book: &[u8], dirt: u8) -> (u8, u8, TableBytes) {
+    let mut table = [dirt; TABLE];
+    let r = unsafe { raw::juntreak_read(book.as_ptr(), book.len(), &mut table) };
+    assert!(r < 65536);
+    ((r % 256) as u8, (r / 256) as u8, table)
+}
+
+/// The number and the delay.
+pub fn delay(table: &TableBytes, rule: u32) -> (u32, u32) {
+    let r = unsafe { raw::juntreak_delay(table, rule) };
+    (r % 65536, r / 65536)
+}
+
+/// The number, the count and the parts.
+pub fn split(lo: u16, hi: u16) -> (u32, usize, [u8; 12]) {
+    let mut parts = [0xaa; 12];
+    let r = unsafe { raw::juntreak_split(lo, hi, &mut parts) };
+    (r % 256, (r / 256) as usize, parts)
+}
+
+/// The number.
+pub fn verdicts(table: &TableBytes, rule: u32, states: &[u32], scratch: &mut [u64], out: &mut [u64]) -> u32 {
+    unsafe { raw::juntreak_verdicts(table, rule, states.as_ptr(), states.len(), scratch.as_mut_ptr(), scratch.len(), out.as_mut_ptr(), out.len()) }
+}
+
+/// The number.
+pub fn simplify(table: &mut TableBytes) -> u32 {
+    unsafe { raw::juntreak_simplify(table) }
+}
+
+/// The number and the session, into a buffer that held `dirt`.
+pub fn open(table: &TableBytes, rule: u32, dirt: u8) -> (u32, SessionBytes) {
+    let mut session = [dirt; SESSION];
+    let number = unsafe { raw::juntreak_open(table, rule, &mut session) };
+    (number, session)
+}
+
+/// The number and the count.
+pub fn feed(session: &mut SessionBytes, block: &[u32], history: &mut [u32], scratch: &mut [u64], out: &mut [u64]) -> (u32, u32) {
+    let r = unsafe {
+        raw::juntreak_feed(session, block.as_ptr(), block.len(), history.as_mut_ptr(), history.len(), scratch.as_mut_ptr(), scratch.len(), out.as_mut_ptr(), out.len())
+    };
+    (r as u32, (r >> 32) as u32)
+}
+
+/// The number and the count.
+pub fn close(session: &mut SessionBytes, history: &[u32], scratch: &mut [u64], out: &mut [u64]) -> (u32, u32) {
+    let r = unsafe { raw::juntreak_close(session, history.as_ptr(), history.len(), scratch.as_mut_ptr(), scratch.len(), out.as_mut_ptr(), out.len()) };
+    (r as u32, (r >> 32) as u32)
+}

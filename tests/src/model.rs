@@ -1,0 +1,485 @@
+//! What the documents say, written plainly and without regard to speed: the reader of books, soundness, delays, splitting, verdicts, the laws of simplifying, and sessions.
+
+#[derive(Clone, Copy, Debug, PartialEq, Eq)]
+pub struct Node {
+    pub kind: u8,
+    pub arg: u8,
+    pub lo: u16,
+    pub hi: u16,
+    pub left: u8,
+    pub right: u8,
+}
+
+#[derive(Clone, Copy, Debug, PartialEq, Eq)]
+pub struct Rule {
+    pub name: u16,
+    pub watched: u8,
+}
+
+#[derive(Clone, Debug, PartialEq, Eq)]
+pub struct Table {
+    pub nodes: Vec<Node>,
+    pub rules: Vec<Rule>,
+}
+
+impl Table {
+    /// The 546 bytes of the C interface.
+    pub fn bytes(&self) -> [u8; 546] {
+        let mut b = [0u8; 546];
+        b[0] = self.nodes.len() as u8;
+        b[1] = self.rules.len() as u8;
+        for (i, n) in self.nodes.iter().enumerate() {
+            let e = &mut b[2 + 8 * i..];
+            e[0] = n.kind;
+            e[1] = n.arg;
+            e[2..4].copy_from_slice(&n.lo.to_le_bytes());
+            e[4..6].copy_from_slice(&n.hi.to_le_bytes());
+            e[6] = n.left;
+            e[7] = n.right;
+        }
+        for (i, r) in self.rules.iter().enumerate() {
+            let e = &mut b[514 + 4 * i..];
+            e[0..2].copy_from_slice(&r.name.to_le_bytes());
+            e[2] = r.watched;
+        }
+        b
+    }
+
+    /// The delay of each node.
+    pub fn delays(&self) -> Vec<u32> {
+        let mut d: Vec<u32> = vec![];
+        for n in &self.nodes {
+            let at = |p: u8| d[p as usize];
+            d.push(match n.kind {
+                1..=3 => 0,
+                4 => at(n.left),
+                5 | 6 => at(n.left).max(at(n.right)),
+                7 | 8 => n.hi as u32 + at(n.left),
+                9 | 10 => n.hi as u32 + at(n.left).max(at(n.right)),
+                _ => unreachable!(),
+            });
+        }
+        d
+    }
+
+    /// The verdicts of the node at a place, at every tick.
+    pub fn verdicts(&self, place: usize, states: &[u32]) -> Vec<bool> {
+        let mut columns: Vec<Vec<bool>> = vec![];
+        for n in &self.nodes[..=place] {
+            let column = (0..states.len()).map(|t| verdict(n, t, states, &columns)).collect();
+            columns.push(column);
+        }
+        columns.pop().unwrap()
+    }
+
+    /// The same as `verdicts`, in one pass over the trace for each node: only the first tick at or after t+lo at which the operand holds, or fails, matters.
+    pub fn quick(&self, place: usize, states: &[u32]) -> Vec<bool> {
+        let n = states.len();
+        let mut columns: Vec<Vec<bool>> = vec![];
+        for node in &self.nodes[..=place] {
+            let a = || &columns[node.left as usize];
+            let b = || &columns[node.right as usize];
+            // Whether the first such tick is in the window of t and comes no later than `other`.
+            let within = |first: &[usize], other: Option<&[usize]>| -> Vec<bool> {
+                (0..n)
+                    .map(|t| {
+                        let from = t + node.lo as usize;
+                        from < n && first[from] < n && first[from] <= t + node.hi as usize && other.is_none_or(|o| first[from] <= o[from])
+                    })
+                    .collect()
+            };
+            let inverse = |c: Vec<bool>| -> Vec<bool> { c.iter().map(|x| !x).collect() };
+            let column = match node.kind {
+                1 => states.iter().map(|x| x >> node.arg & 1 == 1).collect(),
+                2 => vec![true; n],
+                3 => vec![false; n],
+                4 => inverse(a().clone()),
+                5 => (0..n).map(|t| a()[t] && b()[t]).collect(),
+                6 => (0..n).map(|t| a()[t] || b()[t]).collect(),
+                7 => within(&first(a(), true), None),
+                8 => inverse(within(&first(a(), false), None)),
+                9 => within(&first(b(), true), Some(&first(a(), false))),
+                10 => inverse(within(&first(b(), false), Some(&first(a(), true)))),
+                _ => unreachable!(),
+            };
+            columns.push(column);
+        }
+        columns.pop().unwrap()
+    }
+
+    /// The delay of a rule.
+    pub fn rule_delay(&self, rule: usize) -> u32 {
+        self.delays()[self.rules[rule].watched as usize]
+    }
+
+    /// The verdicts of a rule.
+    pub fn rule_verdicts(&self, rule: usize, states: &[u32]) -> Vec<bool> {
+        self.quick(self.rules[rule].watched as usize, states)
+    }
+}
+
+/// For each tick the first one at or after it with the value; the length if there is none.
+fn first(column: &[bool], value: bool) -> Vec<usize> {
+    let mut at = column.len();
+    let mut out = vec![at; column.len()];
+    for t in (0..column.len()).rev() {
+        if column[t] == value {
+            at = t;
+        }
+        out[t] = at;
+    }
+    out
+}
+
+/// The verdict of a node at a tick by those of its operands, quantifier by quantifier.
+fn verdict(n: &Node, t: usize, states: &[u32], columns: &[Vec<bool>]) -> bool {
+    let len = states.len();
+    let (from, to) = (t + n.lo as usize, t + n.hi as usize);
+    let a = |i: usize| columns[n.left as usize][i];
+    let b = |i: usize| columns[n.right as usize][i];
+    let window = || from..(to + 1).min(len).max(from);
+    match n.kind {
+        1 => states[t] >> n.arg & 1 == 1,
+        2 => true,
+        3 => false,
+        4 => !a(t),
+        5 => a(t) && b(t),
+        6 => a(t) || b(t),
+        7 => window().any(a),
+        8 => !window().any(|i| !a(i)),
+        9 => window().any(|i| b(i) && (from..i).all(a)),
+        10 => !window().any(|i| !b(i) && (from..i).all(|j| !a(j))),
+        _ => unreachable!(),
+    }
+}
+
+/// What the interface's 546 bytes say, if they are a sound table's.
+pub fn sound(b: &[u8; 546]) -> Option<Table> {
+    let (nodes, rules) = (b[0] as usize, b[1] as usize);
+    if nodes > 64 || rules == 0 || rules > 8 {
+        return None;
+    }
+    let mut t = Table { nodes: vec![], rules: vec![] };
+    for i in 0..64 {
+        let e = &b[2 + 8 * i..10 + 8 * i];
+        if i >= nodes {
+            if e.iter().any(|x| *x != 0) {
+                return None;
+            }
+            continue;
+        }
+        let n = Node {
+            kind: e[0],
+            arg: e[1],
+            lo: u16::from_le_bytes([e[2], e[3]]),
+            hi: u16::from_le_bytes([e[4], e[5]]),
+            left: e[6],
+            right: e[7],
+        };
+        let earlier = |p: u8| (p as usize) < i;
+        let fine = match n.kind {
+            1 => n.arg < 32,
+            2..=10 => n.arg == 0,
+            _ => false,
+        } && (if n.kind >= 7 { n.lo <= n.hi && n.hi <= 4095 } else { n.lo == 0 && n.hi == 0 })
+            && (if n.kind >= 4 { earlier(n.left) } else { n.left == 0 })
+            && (if matches!(n.kind, 5 | 6 | 9 | 10) { earlier(n.right) } else { n.right == 0 });
+        if !fine {
+            return None;
+        }
+        t.nodes.push(n);
+    }
+    if t.delays().iter().any(|d| *d > 4095) {
+        return None;
+    }
+    for i in 0..8 {
+        let e = &b[514 + 4 * i..518 + 4 * i];
+        if i >= rules {
+            if e.iter().any(|x| *x != 0) {
+                return None;
+            }
+            continue;
+        }
+        let r = Rule { name: u16::from_le_bytes([e[0], e[1]]), watched: e[2] };
+        if e[3] != 0 || r.name == 0 || r.name > 255 || r.watched as usize >= nodes || t.rules.iter().any(|q| q.name == r.name) {
+            return None;
+        }
+        t.rules.push(r);
+    }
+    Some(t)
+}
+
+/// The reading of a book: its table, or the number and the record of the refusal.
+pub fn read(book: &[u8]) -> Result<Table, (u8, u8)> {
+    if book.is_empty() || book.len() % 12 != 0 || book.len() / 12 > 255 {
+        return Err((1, 0));
+    }
+    let records: Vec<&[u8]> = book.chunks(12).collect();
+    let head = records[0];
+    if (0..12).any(|i| i != 8 && head[i] != 0) {
+        return Err((2, 0));
+    }
+    let mut passed = vec![0usize];
+    let follow = |at: usize, passed: &[usize]| -> Result<usize, (u8, u8)> {
+        let next = records[at][8] as usize;
+        if next != 0 && (next >= records.len() || passed.contains(&next)) {
+            return Err((3, at as u8));
+        }
+        Ok(next)
+    };
+    let mut at = follow(0, &passed)?;
+    let mut t = Table { nodes: vec![], rules: vec![] };
+    let mut place = std::collections::HashMap::new();
+    while at != 0 {
+        passed.push(at);
+        let next = follow(at, &passed)?;
+        let e = records[at];
+        let refuse = |n: u8| Err((n, at as u8));
+        let kind = e[0];
+        let (arg, left, right) = (e[1], e[6], e[7]);
+        let (lo, hi) = (u16::from_le_bytes([e[2], e[3]]), u16::from_le_bytes([e[4], e[5]]));
+        // The fields that each kind uses: argument, left, right, interval.
+        let (has_arg, has_left, has_right, has_interval) = match kind {
+            1 => (true, false, false, false),
+            2 | 3 => (false, false, false, false),
+            4 => (false, true, false, false),
+            5 | 6 => (false, true, true, false),
+            7 | 8 => (false, true, false, true),
+            9 | 10 => (false, true, true, true),
+            11 => (true, true, false, false),
+            _ => return refuse(4),
+        };
+        if (!has_arg && arg != 0) || (!has_left && left != 0) || (!has_right && right != 0) || (!has_interval && (lo != 0 || hi != 0)) || e[9..12] != [0, 0, 0] {
+            return refuse(4);
+        }
+        if (kind == 1 && arg > 31) || (kind == 11 && arg == 0) {
+            return refuse(5);
+        }
+        if has_interval && (lo > hi || hi > 4095) {
+            return refuse(6);
+        }
+        if (has_left && !place.contains_key(&left)) || (has_right && !place.contains_key(&right)) {
+            return refuse(7);
+        }
+        let node_at = |r: u8| *place.get(&r).unwrap_or(&0u8);
+        if kind == 11 {
+            if t.rules.len() == 8 {
+                return refuse(8);
+            }
+            if t.rules.iter().any(|q| q.name == arg as u16) {
+                return refuse(10);
+            }
+            t.rules.push(Rule { name: arg as u16, watched: node_at(left) });
+        } else {
+            if t.nodes.len() == 64 {
+                return refuse(8);
+            }
+            t.nodes.push(Node { kind, arg, lo, hi, left: node_at(left), right: node_at(right) });
+            if *t.delays().last().unwrap() > 4095 {
+                return refuse(9);
+            }
+            place.insert(at as u8, t.nodes.len() as u8 - 1);
+        }
+        at = next;
+    }
+    if t.rules.is_empty() {
+        return Err((11, 0));
+    }
+    Ok(t)
+}
+
+/// The parts of v: each time the largest k ≥ 1 with 2^k - 1 at most what is left.
+pub fn parts(mut v: u32) -> Vec<u8> {
+    let mut out = vec![];
+    while v > 0 {
+        let k = (1..=12).rev().find(|k| (1u32 << k) - 1 <= v).unwrap();
+        out.push(k as u8);
+        v -= (1 << k) - 1;
+    }
+    out
+}
+
+/// A law of simplifying that fits the node at a place by itself and its operands.
+pub fn law_at(t: &Table, place: usize) -> Option<&'static str> {
+    let n = &t.nodes[place];
+    let constant = |p: u8| matches!(t.nodes[p as usize].kind, 2 | 3);
+    let left = || &t.nodes[n.left as usize];
+    let right = || &t.nodes[n.right as usize];
+    let inside = |x: &Node, y: &Node| y.lo <= x.lo && x.hi <= y.hi;
+    match n.kind {
+        4 if left().kind == 4 => return Some("not not"),
+        4 if constant(n.left) => return Some("not of a constant"),
+        5 | 6 => {
+            if constant(n.left) || constant(n.right) {
+                return Some("and, or with a constant");
+            }
+            if n.left == n.right {
+                return Some("and, or of one node");
+            }
+            let (x, y) = (left(), right());
+            if matches!(x.kind, 7 | 8) && x.kind == y.kind && x.left == y.left && (inside(x, y) || inside(y, x)) {
+                return Some("two intervals, one inside the other");
+            }
+        }
+        7..=10 => {
+            if n.lo == 0 && n.hi == 0 {
+                return Some("[0,0]");
+            }
+            if matches!(n.kind, 7 | 8) && left().kind == n.kind {
+                return Some("F F or G G");
+            }
+            // The node whose value at some tick decides.
+            let decides = if n.kind <= 8 { left() } else { right() };
+            if (matches!(n.kind, 7 | 9) && decides.kind == 3) || (matches!(n.kind, 8 | 10) && decides.kind == 2) {
+                return Some("F false, U false, G true, R true");
+            }
+        }
+        _ => {}
+    }
+    if t.nodes[..place].contains(n) {
+        return Some("two equal nodes");
+    }
+    None
+}
+
+/// The places that no operand and no rule names.
+pub fn unused(t: &Table) -> Vec<usize> {
+    let mut used = vec![false; t.nodes.len()];
+    for n in &t.nodes {
+        if n.kind >= 4 {
+            used[n.left as usize] = true;
+        }
+        if matches!(n.kind, 5 | 6 | 9 | 10) {
+            used[n.right as usize] = true;
+        }
+    }
+    for r in &t.rules {
+        used[r.watched as usize] = true;
+    }
+    (0..t.nodes.len()).filter(|i| !used[*i]).collect()
+}
+
+/// A law of simplifying that fits somewhere in the table.
+pub fn law(t: &Table) -> Option<String> {
+    if let Some((i, l)) = (0..t.nodes.len()).find_map(|i| law_at(t, i).map(|l| (i, l))) {
+        return Some(format!("{l}, at place {i}"));
+    }
+    unused(t).first().map(|i| format!("unused node, at place {i}"))
+}
+
+/// Words of out with the verdicts and zeros behind them.
+fn write_verdicts(out: &mut [u64], verdicts: &[bool]) {
+    for w in out.iter_mut() {
+        *w = 0;
+    }
+    for (i, v) in verdicts.iter().enumerate() {
+        out[i / 64] |= (*v as u64) << (i % 64);
+    }
+}
+
+const SCRATCH: usize = 5280;
+const HISTORY: usize = 4095;
+
+/// The number of the whole-trace verdicts, and the buffers after it.
+pub fn whole(table: &[u8; 546], rule: u32, states: &[u32], scratch: &mut [u64], out: &mut [u64]) -> u32 {
+    let Some(t) = sound(table) else { return 25 };
+    if rule as usize >= t.rules.len() {
+        return 21;
+    }
+    if states.len() > 5120 {
+        return 22;
+    }
+    let words = states.len().div_ceil(64);
+    if scratch.len() < SCRATCH || out.len() < words {
+        return 23;
+    }
+    write_verdicts(&mut out[..words], &t.rule_verdicts(rule as usize, states));
+    scratch[..SCRATCH].fill(0);
+    0
+}
+
+#[derive(Clone, Debug, PartialEq, Eq)]
+pub struct Session {
+    pub table: Table,
+    pub rule: u32,
+    pub seen: u64,
+}
+
+impl Session {
+    /// The 558 bytes of the C interface.
+    pub fn bytes(&self) -> [u8; 558] {
+        let mut b = [0u8; 558];
+        b[..546].copy_from_slice(&self.table.bytes());
+        b[546..550].copy_from_slice(&self.rule.to_le_bytes());
+        b[550..].copy_from_slice(&self.seen.to_le_bytes());
+        b
+    }
+
+    fn delay(&self) -> u64 {
+        self.table.rule_delay(self.rule as usize) as u64
+    }
+
+    /// How many states history holds.
+    fn held(&self) -> usize {
+        self.seen.min(self.delay()) as usize
+    }
+}
+
+/// What the interface's 558 bytes say, if they are a session's.
+pub fn session(b: &[u8; 558]) -> Option<Session> {
+    let table = sound(b[..546].try_into().unwrap())?;
+    let rule = u32::from_le_bytes(b[546..550].try_into().unwrap());
+    let seen = u64::from_le_bytes(b[550..].try_into().unwrap());
+    if rule as usize >= table.rules.len() || seen > 4_294_967_295 {
+        return None;
+    }
+    Some(Session { table, rule, seen })
+}
+
+/// The number of an opening and its session.
+pub fn open(table: &[u8; 546], rule: u32) -> (u32, [u8; 558]) {
+    match sound(table) {
+        None => (25, [0; 558]),
+        Some(t) if rule as usize >= t.rules.len() => (21, [0; 558]),
+        Some(table) => (0, Session { table, rule, seen: 0 }.bytes()),
+    }
+}
+
+/// The number and the count of a feed, and the session and buffers after it.
+pub fn feed(session_bytes: &mut [u8; 558], block: &[u32], history: &mut [u32], scratch: &mut [u64], out: &mut [u64]) -> (u32, u32) {
+    let Some(mut s) = session(session_bytes) else { return (25, 0) };
+    let k = block.len() as u64;
+    if k > 1024 {
+        return (22, 0);
+    }
+    if history.len() < HISTORY || scratch.len() < SCRATCH || out.len() < 16 {
+        return (23, 0);
+    }
+    if s.seen + k > 4_294_967_295 {
+        return (24, 0);
+    }
+    let d = s.delay();
+    let trace: Vec<u32> = [&history[..s.held()], block].concat();
+    let count = ((s.seen + k).saturating_sub(d) - s.seen.saturating_sub(d)) as usize;
+    write_verdicts(&mut out[..16], &s.table.rule_verdicts(s.rule as usize, &trace)[..count]);
+    s.seen += k;
+    let kept = s.held();
+    history[..kept].copy_from_slice(&trace[trace.len() - kept..]);
+    scratch[..SCRATCH].fill(0);
+    *session_bytes = s.bytes();
+    (0, count as u32)
+}
+
+/// The number and the count of a close, and the session and buffers after it.
+pub fn close(session_bytes: &mut [u8; 558], history: &[u32], scratch: &mut [u64], out: &mut [u64]) -> (u32, u32) {
+    let Some(mut s) = session(session_bytes) else { return (25, 0) };
+    if history.len() < HISTORY || scratch.len() < SCRATCH || out.len() < 64 {
+        return (23, 0);
+    }
+    let held = s.held();
+    write_verdicts(&mut out[..64], &s.table.rule_verdicts(s.rule as usize, &history[..held]));
+    scratch[..SCRATCH].fill(0);
+    s.seen = 0;
+    *session_bytes = s.bytes();
+    (0, held as u32)
+}

@@ -1,0 +1,152 @@
+//! Random numbers, tables, books and traces.
+use crate::model::{Node, Rule, Table};
+
+/// SplitMix64.
+pub struct Random(pub u64);
+
+impl Random {
+    pub fn next(&mut self) -> u64 {
+        self.0 = self.0.wrapping_add(0x9e37_79b9_7f4a_7c15);
+        let mut z = self.0;
+        z = (z ^ (z >> 30)).wrapping_mul(0xbf58_476d_1ce4_e5b9);
+        z = (z ^ (z >> 27)).wrapping_mul(0x94d0_49bb_1331_11eb);
+        z ^ (z >> 31)
+    }
+
+    pub fn below(&mut self, n: u64) -> u64 {
+        self.next() % n
+    }
+
+    pub fn chance(&mut self, one_in: u64) -> bool {
+        self.below(one_in) == 0
+    }
+
+    pub fn pick<T: Copy>(&mut self, xs: &[T]) -> T {
+        xs[self.below(xs.len() as u64) as usize]
+    }
+}
+
+/// An interval whose upper limit is at most `room`; small ones, single points and the whole room are frequent.
+fn interval(r: &mut Random, room: u16) -> (u16, u16) {
+    let top = match r.below(6) {
+        0 => 0,
+        1 => room,
+        2 => room.min(70),
+        _ => room.min(9),
+    };
+    let hi = r.below(top as u64 + 1) as u16;
+    let lo = if r.chance(4) { hi } else { r.below(hi as u64 + 1) as u16 };
+    (lo, hi)
+}
+
+/// A sound table with `count` nodes, whose delays stay at most `longest`.
+pub fn table(r: &mut Random, count: usize, longest: u16) -> Table {
+    let mut t = Table { nodes: vec![], rules: vec![] };
+    let mut delays: Vec<u16> = vec![];
+    for i in 0..count {
+        let kind = if i == 0 { r.pick(&[1, 1, 2, 3]) } else { r.pick(&[1, 1, 2, 3, 4, 4, 5, 5, 6, 6, 7, 7, 8, 8, 9, 9, 10, 10]) };
+        let mut n = Node { kind, arg: 0, lo: 0, hi: 0, left: 0, right: 0 };
+        if kind == 1 {
+            n.arg = if r.chance(3) { r.below(32) as u8 } else { r.below(3) as u8 };
+        }
+        let (mut a, mut b) = (0, 0);
+        if kind >= 4 {
+            // Mostly a near operand, so that formulas are deep.
+            n.left = (if r.chance(2) { i - 1 } else { r.below(i as u64) as usize }) as u8;
+            a = delays[n.left as usize];
+        }
+        if matches!(kind, 5 | 6 | 9 | 10) {
+            n.right = r.below(i as u64) as u8;
+            b = delays[n.right as usize];
+        }
+        let inner = a.max(b);
+        if kind >= 7 {
+            let (lo, hi) = interval(r, longest - inner);
+            n.lo = lo;
+            n.hi = hi;
+        }
+        delays.push(n.hi + inner);
+        t.nodes.push(n);
+    }
+    let rules = 1 + r.below(8) as usize;
+    let mut name = 0u16;
+    for i in 0..rules {
+        name += 1 + r.below(20) as u16;
+        let watched = if i == 0 && !r.chance(4) { count - 1 } else { r.below(count as u64) as usize };
+        t.rules.push(Rule { name, watched: watched as u8 });
+    }
+    t
+}
+
+/// Signals 0 to 2 random at one of several densities, the others now and then.
+pub fn trace(r: &mut Random, n: usize) -> Vec<u32> {
+    let density = r.pick(&[2u64, 2, 4, 10, 100]);
+    let often = r.chance(3);
+    (0..n)
+        .map(|_| {
+            let mut x = 0;
+            for s in 0..3 {
+                if r.chance(density) != often {
+                    x |= 1 << s;
+                }
+            }
+            if r.chance(4) {
+                x |= (r.next() as u32) & 0xffff_fff8;
+            }
+            x
+        })
+        .collect()
+}
+
+/// The book of a table, with rules between the nodes, records in random order, and spare records of dirt.
+pub fn book(r: &mut Random, t: &Table) -> Vec<u8> {
+    let needed = t.nodes.len() + t.rules.len();
+    let total = (1 + needed + r.below(1 + (254 - needed as u64).min(20)) as usize).min(255);
+    let mut places: Vec<u8> = (1..total as u8 as usize).map(|x| x as u8).collect();
+    for i in (1..places.len()).rev() {
+        places.swap(i, r.below(i as u64 + 1) as usize);
+    }
+    places.truncate(needed);
+    let mut b: Vec<u8> = (0..total * 12).map(|_| r.next() as u8).collect();
+    for x in &mut b[..12] {
+        *x = 0;
+    }
+    // The order of the chain: nodes in order, each rule at some place after what it watches, rules in order.
+    let mut order: Vec<(bool, usize)> = (0..t.nodes.len()).map(|i| (true, i)).collect();
+    let mut from = 0;
+    for (j, rule) in t.rules.iter().enumerate() {
+        let after = order.iter().position(|x| *x == (true, rule.watched as usize)).unwrap() + 1;
+        let low = after.max(from);
+        let at = low + r.below((order.len() - low) as u64 + 1) as usize;
+        order.insert(at, (false, j));
+        from = at + 1;
+    }
+    let mut record_of = vec![0u8; t.nodes.len()];
+    let mut before = 0usize;
+    for (k, (is_node, i)) in order.iter().enumerate() {
+        let at = places[k];
+        b[before * 12 + 8] = at;
+        let e = &mut b[at as usize * 12..at as usize * 12 + 12];
+        e.fill(0);
+        if *is_node {
+            let n = &t.nodes[*i];
+            record_of[*i] = at;
+            e[0] = n.kind;
+            e[1] = n.arg;
+            e[2..4].copy_from_slice(&n.lo.to_le_bytes());
+            e[4..6].copy_from_slice(&n.hi.to_le_bytes());
+            if n.kind >= 4 {
+                e[6] = record_of[n.left as usize];
+            }
+            if matches!(n.kind, 5 | 6 | 9 | 10) {
+                e[7] = record_of[n.right as usize];
+            }
+        } else {
+            e[0] = 11;
+            e[1] = t.rules[*i].name as u8;
+            e[6] = record_of[t.rules[*i].watched as usize];
+        }
+        before = at as usize;
+    }
+    b
+}

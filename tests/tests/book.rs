@@ -1,0 +1,212 @@
+//! Books, delays and splittings, against the models.
+use juntreak_tests::library::{check_book, delay, read, split};
+use juntreak_tests::model;
+use juntreak_tests::random::{book, table, Random};
+
+/// Every answer about one book; returns the number of the refusal.
+fn compare(b: &[u8], dirt: u8) -> u8 {
+    let (number, record, bytes) = read(b, dirt);
+    assert_eq!(check_book(b), number as u32 + 256 * record as u32);
+    match model::read(b) {
+        Ok(t) => {
+            assert_eq!((number, record), (0, 0), "{b:?}");
+            assert_eq!(bytes, t.bytes(), "{b:?}");
+            assert_eq!(model::sound(&bytes), Some(t));
+        }
+        Err(refusal) => {
+            assert_eq!((number, record), refusal, "{b:?}");
+            assert_eq!(bytes, [0; 546]);
+        }
+    }
+    number
+}
+
+/// One damage to a book: a byte, a field, a link, the length.
+fn damage(r: &mut Random, b: &mut Vec<u8>) {
+    if b.is_empty() {
+        return;
+    }
+    let records = (b.len() / 12).max(1);
+    let record = r.below(records as u64) as usize;
+    let at = |k: usize| (record * 12 + k).min(b.len() - 1);
+    match r.below(12) {
+        0 => {
+            let i = r.below(b.len() as u64) as usize;
+            b[i] = r.next() as u8;
+        }
+        1 => {
+            let i = at(0);
+            b[i] = r.below(14) as u8;
+        }
+        2 => {
+            let i = at(1);
+            b[i] = r.pick(&[0, 1, 31, 32, 33, 255]);
+        }
+        3 => {
+            let i = at(5);
+            b[i] = r.pick(&[0, 15, 16, 255]);
+        }
+        4 => {
+            let i = at(3);
+            b[i] = r.pick(&[0, 15, 16]);
+        }
+        5 => {
+            let i = at(6);
+            b[i] = r.below(records as u64 + 1) as u8;
+        }
+        6 => {
+            let i = at(7);
+            b[i] = r.below(records as u64 + 1) as u8;
+        }
+        7 | 8 => {
+            let i = at(8);
+            b[i] = r.pick(&[0, record as u8, (records - 1) as u8, records as u8, 255, 1]);
+        }
+        9 => {
+            let i = at(9 + r.below(3) as usize);
+            b[i] = 1;
+        }
+        10 => {
+            let n = r.below(b.len() as u64 + 1) as usize;
+            b.truncate(n);
+        }
+        _ => {
+            let n = r.below(30) as usize;
+            b.extend(std::iter::repeat(0).take(n));
+        }
+    }
+}
+
+/// A book chained 1, 2, 3 up of the given records.
+fn chained(records: &[[u8; 12]]) -> Vec<u8> {
+    let mut b = vec![0u8; 12];
+    b[8] = 1;
+    for (i, e) in records.iter().enumerate() {
+        let mut e = *e;
+        e[8] = if i + 1 < records.len() { i as u8 + 2 } else { 0 };
+        b.extend(e);
+    }
+    b
+}
+
+const SIGNAL: [u8; 12] = [1, 0, 0, 0, 0, 0, 0, 0, 0, 0, 0, 0];
+
+fn rule(name: u8, watched: u8) -> [u8; 12] {
+    [11, name, 0, 0, 0, 0, watched, 0, 0, 0, 0, 0]
+}
+
+fn finally(hi: u16, left: u8) -> [u8; 12] {
+    let h = hi.to_le_bytes();
+    [7, 0, 0, 0, h[0], h[1], left, 0, 0, 0, 0, 0]
+}
+
+#[test]
+fn random_valid_and_damaged_books() {
+    let mut r = Random(1);
+    let mut seen = [0u32; 12];
+    for round in 0..30_000u32 {
+        let count = if r.chance(20) { 64 } else { 1 + r.below(12) as usize };
+        let longest = r.pick(&[4095, 4095, 300]);
+        let t = table(&mut r, count, longest);
+        let mut b = book(&mut r, &t);
+        assert_eq!(model::read(&b), Ok(t.clone()));
+        for _ in 0..r.below(3) {
+            damage(&mut r, &mut b);
+        }
+        seen[compare(&b, round as u8) as usize] += 1;
+    }
+    // Refusals that damage seldom reaches: too many nodes or rules, long delays, names used twice, no rule.
+    for round in 0..200u32 {
+        let mut many = vec![SIGNAL; 65 - (round % 2) as usize];
+        many.extend((0..7 + round % 4).map(|i| rule(1 + i as u8, 1)));
+        seen[compare(&chained(&many), 7) as usize] += 1;
+        let hi = 4090 + (round % 8) as u16;
+        seen[compare(&chained(&[SIGNAL, finally(3, 1), finally(hi, 2), rule(9, 3)]), 7) as usize] += 1;
+        let again = 1 + (round % 3) as u8;
+        seen[compare(&chained(&[SIGNAL, rule(1, 1), rule(2, 1), rule(again, 1)]), 7) as usize] += 1;
+        seen[compare(&chained(&vec![SIGNAL; 1 + (round % 9) as usize]), 7) as usize] += 1;
+    }
+    for (number, times) in seen.iter().enumerate() {
+        assert!(*times >= 50, "refusal {number} was seen {times} times");
+    }
+}
+
+#[test]
+fn every_length() {
+    let mut r = Random(2);
+    for n in 0..=3100usize {
+        let mut b = vec![0u8; n];
+        compare(&b, 1);
+        for x in &mut b {
+            *x = if r.chance(3) { r.below(14) as u8 } else { 0 };
+        }
+        for x in b.iter_mut().take(12) {
+            *x = 0;
+        }
+        if n > 8 {
+            b[8] = r.below(6) as u8;
+        }
+        compare(&b, 2);
+    }
+}
+
+#[test]
+fn worked_examples() {
+    let own = {
+        let mut b = chained(&[SIGNAL, rule(1, 1)]);
+        b[12 + 8] = 1;
+        b
+    };
+    assert_eq!(check_book(&own), 3 + 256);
+    assert_eq!(check_book(&chained(&[SIGNAL, finally(4095, 1), rule(1, 2)])), 0);
+    assert_eq!(check_book(&chained(&[SIGNAL, finally(4095, 1), finally(1, 2), rule(1, 3)])), 9 + 256 * 3);
+    assert_eq!(check_book(&[]), 1);
+    assert_eq!(check_book(&[0; 12]), 11);
+    assert_eq!(check_book(&[0; 255 * 12]), 11);
+    assert_eq!(check_book(&[0; 256 * 12]), 1);
+}
+
+#[test]
+fn delays_of_sound_and_damaged_tables() {
+    let mut r = Random(3);
+    let (mut sound, mut unsound) = (0, 0);
+    for _ in 0..20_000 {
+        let count = 1 + r.below(64) as usize;
+        let t = table(&mut r, count, 4095);
+        let mut b = t.bytes();
+        for _ in 0..r.below(3) {
+            let at = if r.chance(2) { r.below(546) } else { r.pick(&[0, 1, 2, 4, 5, 6, 7, 8, 9, 514, 515, 516, 517, 518, 545]) };
+            b[at as usize] = r.pick(&[0, 1, 2, 16, 63, 64, 255, r.0 as u8]);
+        }
+        let want = model::sound(&b);
+        for rule in [0, 1, 7, 8, u32::MAX] {
+            let expected = match &want {
+                None => (25, 0),
+                Some(t) if rule as usize >= t.rules.len() => (21, 0),
+                Some(t) => (0, t.delays()[t.rules[rule as usize].watched as usize]),
+            };
+            assert_eq!(delay(&b, rule), expected);
+        }
+        *(if want.is_some() { &mut sound } else { &mut unsound }) += 1;
+    }
+    assert!(sound > 3000 && unsound > 3000, "{sound} {unsound}");
+}
+
+#[test]
+fn all_splittings() {
+    for v in 0..=4095u16 {
+        let want = model::parts(v as u32);
+        for lo in [0, 1, 4095 - v] {
+            if lo + v > 4095 {
+                continue;
+            }
+            let (number, count, parts) = split(lo, lo + v);
+            assert_eq!((number, count), (0, want.len()));
+            assert_eq!(&parts[..count], &want[..]);
+            assert!(parts[count..].iter().all(|k| *k == 0));
+        }
+    }
+    for (lo, hi) in [(1, 0), (5, 4), (0, 4096), (4096, 4096), (65535, 65535), (65535, 0)] {
+        assert_eq!(split(lo, hi), (6, 0, [0; 12]));
+    }
+}
