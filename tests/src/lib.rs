@@ -2,3 +2,11 @@
 pub mod library;
 pub mod model;
 pub mod random;
+
+/// Fails at the first place where two buffers differ.
+pub fn same<T: PartialEq + std::fmt::Debug>(what: &str, got: &[T], want: &[T]) {
+    assert_eq!(got.len(), want.len(), "length of {what}");
+    if let Some(i) = (0..got.len()).find(|i| got[*i] != want[*i]) {
+        panic!("{what} at {i}: {:?} instead of {:?}", got[i], want[i]);
+    }
+}

@@ -74,9 +74,14 @@ impl Table {
 
     /// The same as `verdicts`, in one pass over the trace for each node: only the first tick at or after t+lo at which the operand holds, or fails, matters.
     pub fn quick(&self, place: usize, states: &[u32]) -> Vec<bool> {
+        self.columns(place + 1, states).pop().unwrap()
+    }
+
+    /// The verdicts of the first `count` nodes.
+    pub fn columns(&self, count: usize, states: &[u32]) -> Vec<Vec<bool>> {
         let n = states.len();
         let mut columns: Vec<Vec<bool>> = vec![];
-        for node in &self.nodes[..=place] {
+        for node in &self.nodes[..count] {
             let a = || &columns[node.left as usize];
             let b = || &columns[node.right as usize];
             // Whether the first such tick is in the window of t and comes no later than `other`.
@@ -104,7 +109,7 @@ impl Table {
             };
             columns.push(column);
         }
-        columns.pop().unwrap()
+        columns
     }
 
     /// The delay of a rule.

@@ -1,5 +1,5 @@
 //! Random numbers, tables, books and traces.
-use crate::model::{Node, Rule, Table};
+use crate::model::{law_at, unused, Node, Rule, Table};
 
 /// SplitMix64.
 pub struct Random(pub u64);
@@ -149,4 +149,184 @@ pub fn book(r: &mut Random, t: &Table) -> Vec<u8> {
         before = at as usize;
     }
     b
+}
+
+/// Words of dirt.
+pub fn words(r: &mut Random, n: usize) -> Vec<u64> {
+    (0..n).map(|_| r.next()).collect()
+}
+
+/// Short words of dirt.
+pub fn short_words(r: &mut Random, n: usize) -> Vec<u32> {
+    (0..n).map(|_| r.next() as u32).collect()
+}
+
+/// One to three bytes of a table or session changed, often at its counts, its first nodes, its rules or its end.
+pub fn damage(r: &mut Random, b: &mut [u8]) {
+    for _ in 0..1 + r.below(3) {
+        let at = match r.below(4) {
+            0 => r.below(b.len() as u64) as usize,
+            1 => r.below(20) as usize,
+            2 => 514 + r.below(32) as usize,
+            _ => b.len() - 1 - r.below(14) as usize,
+        };
+        b[at] = r.pick(&[0, 1, 2, 8, 16, 63, 64, 255, r.0 as u8]);
+    }
+}
+
+/// The delay of the operands of a node.
+fn inner(delays: &[u32], n: &Node) -> u32 {
+    let left = if n.kind >= 4 { delays[n.left as usize] } else { 0 };
+    let right = if matches!(n.kind, 5 | 6 | 9 | 10) { delays[n.right as usize] } else { 0 };
+    left.max(right)
+}
+
+/// A place of one of the kinds, if there is one.
+fn place_of(r: &mut Random, t: &Table, kinds: &[u8]) -> Option<u8> {
+    let places: Vec<u8> = (0..t.nodes.len()).filter(|i| kinds.contains(&t.nodes[*i].kind)).map(|i| i as u8).collect();
+    if places.is_empty() {
+        None
+    } else {
+        Some(r.pick(&places))
+    }
+}
+
+/// A node that invites a law, operands only; its interval is still [0,0].
+fn inviting(r: &mut Random, t: &Table) -> Option<(Node, bool)> {
+    let i = t.nodes.len() as u64;
+    let node = |kind, left, right| Node { kind, arg: 0, lo: 0, hi: 0, left, right };
+    let any = r.below(i) as u8;
+    // The second answer: whether the interval is to be drawn.
+    Some(match r.below(9) {
+        0 => (node(4, place_of(r, t, &[2, 3, 4])?, 0), false),
+        1 => {
+            let p = place_of(r, t, &[7, 8])?;
+            (node(t.nodes[p as usize].kind, p, 0), true)
+        }
+        2 | 3 => {
+            // Two of F or two of G over one operand.
+            let p = place_of(r, t, &[7, 8])?;
+            let x = t.nodes[p as usize];
+            let others: Vec<u8> = (0..i as u8).filter(|q| *q != p && t.nodes[*q as usize].kind == x.kind && t.nodes[*q as usize].left == x.left).collect();
+            if others.is_empty() {
+                (node(x.kind, x.left, 0), true)
+            } else {
+                (node(r.pick(&[5, 6]), p, r.pick(&others)), false)
+            }
+        }
+        4 => (node(r.pick(&[7, 8]), any, 0), false),
+        5 => (node(r.pick(&[9, 10]), any, r.below(i) as u8), false),
+        6 => (node(r.pick(&[5, 6]), any, any), false),
+        7 => {
+            let p = place_of(r, t, &[2, 3])?;
+            let (a, b) = if r.chance(2) { (p, any) } else { (any, p) };
+            (node(r.pick(&[5, 6]), a, b), false)
+        }
+        _ => {
+            let p = place_of(r, t, &[2, 3])?;
+            let kind = r.pick(&[7, 8, 9, 10]);
+            if kind <= 8 {
+                (node(kind, p, 0), true)
+            } else if r.chance(3) {
+                (node(kind, p, any), true)
+            } else {
+                (node(kind, any, p), true)
+            }
+        }
+    })
+}
+
+/// A node of any kind over the nodes before it, mostly the last of them.
+fn plain(r: &mut Random, t: &Table) -> Node {
+    let i = t.nodes.len() as u64;
+    let kind = if i == 0 { r.pick(&[1, 1, 1, 2, 3]) } else { r.pick(&[1, 1, 2, 3, 4, 5, 6, 7, 7, 8, 8, 9, 10]) };
+    let mut n = Node { kind, arg: 0, lo: 0, hi: 0, left: 0, right: 0 };
+    if kind == 1 {
+        n.arg = if r.chance(5) { r.below(32) as u8 } else { r.below(3) as u8 };
+    }
+    if kind >= 4 {
+        n.left = (if r.chance(2) { i - 1 } else { r.below(i) }) as u8;
+    }
+    if matches!(kind, 5 | 6 | 9 | 10) {
+        n.right = r.below(i) as u8;
+    }
+    n
+}
+
+/// A sound table rich in what the laws of simplifying remove.
+pub fn redundant(r: &mut Random, count: usize, longest: u16) -> Table {
+    let mut t = Table { nodes: vec![], rules: vec![] };
+    let mut delays: Vec<u32> = vec![];
+    for i in 0..count {
+        let draw = r.below(10);
+        let mut n = None;
+        let mut drawn = false;
+        if i > 0 && draw == 0 {
+            n = Some(t.nodes[r.below(i as u64) as usize]);
+        } else if i > 0 && draw < 6 {
+            if let Some((x, open)) = inviting(r, &t) {
+                n = Some(x);
+                drawn = open;
+            }
+        }
+        let mut n = n.unwrap_or_else(|| {
+            drawn = true;
+            plain(r, &t)
+        });
+        let inside = inner(&delays, &n);
+        if n.kind >= 7 && drawn {
+            (n.lo, n.hi) = interval(r, longest - inside as u16);
+        }
+        delays.push(n.hi as u32 + inside);
+        t.nodes.push(n);
+    }
+    let rules = 1 + r.below(8) as usize;
+    let mut name = 0;
+    for _ in 0..rules {
+        name += 1 + r.below(20) as u16;
+        let watched = if r.chance(2) { count - 1 - r.below(count.min(3) as u64) as usize } else { r.below(count as u64) as usize };
+        t.rules.push(Rule { name, watched: watched as u8 });
+    }
+    t
+}
+
+/// A sound table that no law of simplifying fits.
+pub fn law_free(r: &mut Random, count: usize, longest: u16) -> Table {
+    loop {
+        let mut t = Table { nodes: vec![], rules: vec![] };
+        let mut delays: Vec<u32> = vec![];
+        while t.nodes.len() < count {
+            let i = t.nodes.len();
+            let mut n = plain(r, &t);
+            if i >= 4 && n.kind < 4 && !r.chance(8) {
+                continue;
+            }
+            if i >= 4 && n.kind >= 4 {
+                n.left = i as u8 - 1;
+            }
+            let inside = inner(&delays, &n);
+            if n.kind >= 7 {
+                (n.lo, n.hi) = interval(r, longest - inside as u16);
+            }
+            t.nodes.push(n);
+            if law_at(&t, i).is_some() {
+                t.nodes.pop();
+            } else {
+                delays.push(n.hi as u32 + inside);
+            }
+        }
+        let mut watched = unused(&t);
+        if watched.len() > 8 {
+            continue;
+        }
+        while watched.len() < 8 && r.chance(2) {
+            watched.push(r.below(count as u64) as usize);
+        }
+        let mut name = 0;
+        for w in watched {
+            name += 1 + r.below(20) as u16;
+            t.rules.push(Rule { name, watched: w as u8 });
+        }
+        return t;
+    }
 }

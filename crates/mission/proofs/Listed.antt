@@ -116,7 +116,7 @@ module _ (first : Session) (start : List ℕ) (fresh : first .seen ≡ 0) where
       record {
         session = ap (λ (o : Effect). o .answer .session) q;
         claim =
-            rw (t, verdicts-snoc cs (close e))
+            rw (t, verdicts-snoc cs (close e), ap (λ (o : Effect). o .history) q)
             (after-close val D stable future start (e .history) (min n D) (verdictsGiven cs) (verdictsOf (close e)) (statesFed cs) (c .claim) refl more);
       }
 

@@ -79,9 +79,9 @@ module _ (val : List ℕ → ℕ → Bool) (D : ℕ) (stable : (xs ys : List ℕ
     -- the states that are left, as a whole trace
     pub after-close : (h : List ℕ) (count : ℕ) (given more : List Bool) (states : List ℕ) → Going val D start h states given
         → count ≡ min (length states) D → more ≡ ticks (val (take (min (length states) D) h)) count
-        → Ended val D start states (given ++ more)
+        → Ended val D start h states (given ++ more)
     after-close h count given more states g n b =
         let m : length states - D + count ≡ length states = omega arith in
         let v : given ++ more ≡ ticks (val states) (length states) =
         rw (b, g .kept) (simp (append-nil, m) at (grown states [] [] given count (rw append-assoc (g .exact [])) (λ t p. simp append-nil))) in
-        record { count = ap length v ∙ length-ticks (val states) (length states); exact = v }
+        record { kept = g .kept; others = g .others; count = ap length v ∙ length-ticks (val states) (length states); exact = v }

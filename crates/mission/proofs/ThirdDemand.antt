@@ -1,7 +1,4 @@
 -- The third demand: every list of calls on a session over a book that was read and simplified. Assumes nothing.
---     third-demand        the claim of every list of calls
---     every-beginning     the first calls of such a list are such a list
---     refused-exactly     a call is refused exactly where a row of its table of refusals fits
 use Prim.Native.Nat.{ℕ, _+_, _-_, _≤_, _<_}
 use native.Mathlib.Omega.{arith}
 use mathlib.Core.Path.{_≡_, refl, sym, ap, _∙_}
@@ -25,8 +22,8 @@ use Rattle.simplify.specs.declared.Simplified.{Simplified}
 use Rattle.session.specs.declared.Session.{Session}
 use Rattle.session.specs.Session.{Effect, opening}
 use Rattle.session.proofs.Effects.{feed-number, close-number}
-use Rattle.mission.specs.Calls.{Call, feed, close, Calls, statesFed, verdictsGiven, Going, Ended, Claim}
-use Rattle.mission.specs.Mission.{Start, sessionOf, delayOf, verdictOf, ThirdDemand, Beginning, someFits, rowsOf, RefusedExactly}
+use Rattle.mission.specs.Calls.{Call, feed, close, Meets, numberOf, Calls, statesFed, verdictsGiven, Going, Ended, Claim}
+use Rattle.mission.specs.Mission.{Start, sessionOf, delayOf, verdictOf, ThirdDemand, someFits, rowsOf, simplifyRows, openRows}
 use Rattle.mission.proofs.Listed.{come, beginning}
 
 -- an accepted open: the session, and a rule of the table
@@ -76,16 +73,13 @@ module _ (m : Start) where
     settled = g .settled;
     exact = λ later. g .exact later ∙ as-read (states ++ later) (length states - delayOf m) (omega (arith, length-append states later));
   }
-  of-rule true h states verdicts g = record { count = g .count; exact = g .exact ∙ as-read states (length states) (omega arith) }
+  of-rule true h states verdicts g = record { kept = g .kept; others = g .others; count = g .count; exact = g .exact ∙ as-read states (length states) (omega arith) }
 
-pub third-demand : ThirdDemand
-third-demand m cs s h ended l =
+claim : (m : Start) (cs : List Call) (s : Session) (h : List ℕ) (ended : Bool) → Calls (sessionOf m) (m .history) cs s h ended
+    → Claim (verdictOf m) (delayOf m) (m .history) ended h (statesFed cs) (verdictsGiven cs)
+claim m cs s h ended l =
     let k = come (record { table = m .simplified .table; rule = m .rule; seen = 0 }) (m .history) refl (rw (fresh m) at l) in
     of-rule m ended h (statesFed cs) (verdictsGiven cs) (k .claim)
-
-pub every-beginning : (m : Start) (cs : List Call) (s : Session) (h : List ℕ) (ended : Bool)
-    → Calls (sessionOf m) (m .history) cs s h ended → (j : ℕ) → Beginning (sessionOf m) (m .history) (take j cs)
-every-beginning m cs s h ended l j = beginning (sessionOf m) (m .history) j l
 
 -- ---- refusals
 -- the first of two rows that fits has a number above 0
@@ -104,10 +98,30 @@ first-fits : (rs : List Row) → Positive rs → (¬ (first rs ≡ 0)) ↔ (some
 first-fits [] none = no-row
 first-fits (r ∷ rs) (more h p) = row-fits (r .number) (r .test) (someFits rs) (first rs) h (first-fits rs p)
 
-pub refused-exactly : RefusedExactly
+refused-exactly : (c : Call) → Meets c → (¬ (numberOf c ≡ 0)) ↔ (someFits (rowsOf c) ≡ true)
 refused-exactly (feed block e) m =
     rw (ap (λ (q : Effect). q .answer .number) m ∙ feed-number (e .session) (e .history) (e .scratch) (e .out) block)
     (first-fits (rowsOf (feed block e)) (more (omega arith) (more (omega arith) (more (omega arith) (more (omega arith) none)))))
 refused-exactly (close e) m =
     rw (ap (λ (q : Effect). q .answer .number) m ∙ close-number (e .session) (e .history) (e .scratch) (e .out))
     (first-fits (rowsOf (close e)) (more (omega arith) (more (omega arith) none)))
+
+simplify-exactly : (t : Table) (r : Simplified) → Promised t r → (¬ (r .number ≡ 0)) ↔ (someFits (simplifyRows t) ≡ true)
+simplify-exactly t r p =
+    ⊎-elim
+    (λ (s : isSound t ≡ true). rw (s, p .accepted s .0) no-row)
+    (λ (s : isSound t ≡ false). rw (s, ap (λ (q : Simplified). q .number) (p .refused s)) (λ k. refl, λ e z. omega arith))
+    (true-or-false (isSound t))
+
+open-exactly : (t : Table) (r : ℕ) → (¬ (opening t r .number ≡ 0)) ↔ (someFits (openRows t r) ≡ true)
+unfolding opening
+open-exactly t r = first-fits (openRows t r) (more (omega arith) (more (omega arith) none))
+
+pub third-demand : ThirdDemand
+third-demand = record {
+  claim = claim;
+  beginnings = λ m cs s h ended l j. beginning (sessionOf m) (m .history) j l;
+  calls-refused = refused-exactly;
+  simplify-refused = simplify-exactly;
+  open-refused = open-exactly;
+}

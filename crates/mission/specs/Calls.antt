@@ -84,11 +84,13 @@ module _ (val : List ℕ → ℕ → Bool) (D : ℕ) (start : List ℕ) where
     pub settled : (t : ℕ) → (t < length verdicts) ↔ (t + D < length states)
     pub exact : (later : List ℕ) → verdicts ≡ ticks (val (states ++ later)) (length states - D)
 
-  -- after an accepted close: the verdicts of all ticks of the trace of just these states
-  pub record Ended (states : List ℕ) (verdicts : List Bool) : Type 0 where
+  -- after an accepted close: the verdicts of all ticks of the trace of just these states; history is as it was before
+  pub record Ended (h : List ℕ) (states : List ℕ) (verdicts : List Bool) : Type 0 where
+    pub kept : take (min (length states) D) h ≡ lastOf D states
+    pub others : drop (min (length states) D) h ≡ drop (min (length states) D) start
     pub count : length verdicts ≡ length states
     pub exact : verdicts ≡ ticks (val states) (length states)
 
   abbrev pub Claim : Bool → List ℕ → List ℕ → List Bool → Type 0
   Claim false h states verdicts = Going h states verdicts
-  Claim true h states verdicts = Ended states verdicts
+  Claim true h states verdicts = Ended h states verdicts

@@ -2,13 +2,15 @@
 use Prim.Native.Nat.{ℕ}
 use mathlib.Core.Path.{_≡_}
 use mathlib.Core.Logic.{_↔_}
-use mathlib.Core.Bool.{Bool, true, false, _||_}
+use mathlib.Core.Bool.{Bool, true, false, not, _||_}
 use mathlib.Core.List.{List, [], _∷_}
-use lib.ListN.{length}
-use Rattle.lists.specs.Choice.{Row}
+use lib.ListN.{length, take}
+use lib.Dec.{leb}
+use Rattle.lists.specs.Choice.{Row, _if_}
 use Rattle.mltl.specs.Mltl.{holds, delay}
 use Rattle.table.specs.declared.Table.{Table}
 use Rattle.table.specs.Nodes.{watchedFormula}
+use Rattle.table.specs.Sound.{isSound}
 use Rattle.book.specs.Reading.{reading}
 use Rattle.simplify.specs.Promise.{Promised}
 use Rattle.simplify.specs.declared.Simplified.{Simplified}
@@ -39,12 +41,6 @@ delayOf m = delay (watchedFormula (m .simplified .table) (m .rule))
 abbrev pub verdictOf : Start → List ℕ → ℕ → Bool
 verdictOf m = holds (watchedFormula (reading (m .book) .table) (m .rule))
 
--- The third demand: what holds of every list of calls, by whether a close was accepted in it.
-abbrev pub ThirdDemand : Type 0
-ThirdDemand = (m : Start) (cs : List Call) (s : Session) (h : List ℕ) (ended : Bool)
-    → Calls (sessionOf m) (m .history) cs s h ended
-    → Claim (verdictOf m) (delayOf m) (m .history) ended h (statesFed cs) (verdictsGiven cs)
-
 -- The first calls of such a list are such a list, with the session and the history that they have come to.
 pub record Beginning (first : Session) (start : List ℕ) (cs : List Call) : Type 0 where
   pub session : Session
@@ -64,5 +60,21 @@ rowsOf (feed block e) =
     feedRows (unfit (e .session)) (e .session .seen) (length block) (length (e .history)) (length (e .scratch)) (length (e .out))
 rowsOf (close e) = closeRows (unfit (e .session)) (length (e .history)) (length (e .scratch)) (length (e .out))
 
-abbrev pub RefusedExactly : Type 0
-RefusedExactly = (c : Call) → Meets c → (¬ (numberOf c ≡ 0)) ↔ (someFits (rowsOf c) ≡ true)
+abbrev pub simplifyRows : Table → List Row
+simplifyRows t = (25 if not (isSound t)) ∷ []
+
+abbrev pub openRows : Table → ℕ → List Row
+openRows t r = (25 if not (isSound t)) ∷ (21 if leb (t .«rule_count») r) ∷ []
+
+-- ---- the third demand
+pub record ThirdDemand : Type 0 where
+  -- what holds of every list of calls, by whether a close was accepted in it
+  pub claim : (m : Start) (cs : List Call) (s : Session) (h : List ℕ) (ended : Bool) → Calls (sessionOf m) (m .history) cs s h ended
+      → Claim (verdictOf m) (delayOf m) (m .history) ended h (statesFed cs) (verdictsGiven cs)
+  -- every beginning of such a list is such a list
+  pub beginnings : (m : Start) (cs : List Call) (s : Session) (h : List ℕ) (ended : Bool) → Calls (sessionOf m) (m .history) cs s h ended
+      → (j : ℕ) → Beginning (sessionOf m) (m .history) (take j cs)
+  -- a call, and before it the simplifier's and the open, is refused exactly where a row fits it
+  pub calls-refused : (c : Call) → Meets c → (¬ (numberOf c ≡ 0)) ↔ (someFits (rowsOf c) ≡ true)
+  pub simplify-refused : (t : Table) (r : Simplified) → Promised t r → (¬ (r .number ≡ 0)) ↔ (someFits (simplifyRows t) ≡ true)
+  pub open-refused : (t : Table) (r : ℕ) → (¬ (opening t r .number ≡ 0)) ↔ (someFits (openRows t r) ≡ true)

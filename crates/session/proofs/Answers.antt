@@ -240,3 +240,9 @@ module _ {s : Session} {d : ℕ} {h x o : List ℕ} (f : Closes s d h x o) where
         → (x′ ≡ cleared x) × (o′ ≡ verdictWords 64 count (formulaAt (s .table .nodes) spot) (older ++ none) o)
         → _≡_ {A = Effect} (record { answer = record { number = 0; count = count; session = withSeen s 0 }; history = h; scratch = x′; out = o′ }) (closed s h x o)
     close-is e z (ex, eo) = rw (ex, eo, e, z, append-nil, p, f .fit .delay)
+
+pub unfit-short : (s : Session) → unfit s ≡ false → delayOf s ≤ 4095
+unfit-short s u =
+    let a : isSound (s .table) ≡ true = not-false (isSound (s .table)) (or-left (not (isSound (s .table))) _ u) in
+    let b : leb (s .table .«rule_count») (s .rule) ≡ false = or-right (not (isSound (s .table))) (leb (s .table .«rule_count») (s .rule)) u in
+    watched-short (s .table) (s .rule) (sound-iff (s .table) .0 a) (leb-false (s .table .«rule_count») (s .rule) b)

@@ -179,14 +179,7 @@ fn either(test: bool, number: u8, other: u8) -> u8
 }
 
 // The number of a feed of k states, where `unfit` says whether the session is, and the buffers have these lengths.
-fn feed_number(
-    unfit: bool,
-    seen: u32,
-    k: usize,
-    history: usize,
-    scratch: usize,
-    out: usize,
-) -> u8
+fn feed_number(unfit: bool, seen: u32, k: usize, history: usize, scratch: usize, out: usize) -> u8
     ensures { λ r. ⌜ r ≡ first (feedRows unfit seen k history scratch out) ⌝ }
 {
     let left = 4294967295 - seen as usize;
@@ -237,13 +230,7 @@ fn advance(
 }
 
 // A close that is accepted; d is the delay.
-fn finish(
-    s: Session,
-    d: usize,
-    history: &[u32],
-    scratch: &mut [u64],
-    out: &mut [u64],
-) -> Answer
+fn finish(s: Session, d: usize, history: &[u32], scratch: &mut [u64], out: &mut [u64]) -> Answer
     requires { ⌜ Closes s d (now history) (now scratch) (now out) ⌝ }
     ensures { λ r. ⌜ record { answer = r; history = now (history .entry); scratch = now (scratch .exit); out = now (out .exit) } ≡ closed s (now (history .entry)) (now (scratch .entry)) (now (out .entry)) ⌝ }
 {
@@ -251,7 +238,16 @@ fn finish(
     let rule = s.rule;
     let place = t.rules[rule].watched as usize;
     let count = lesser(s.seen as usize, d);
-    write_verdicts(t, place, &history[0..count], &history[0..0], count, 64, scratch, out);
+    write_verdicts(
+        t,
+        place,
+        &history[0..count],
+        &history[0..0],
+        count,
+        64,
+        scratch,
+        out,
+    );
     let session = Session {
         table: t,
         rule,

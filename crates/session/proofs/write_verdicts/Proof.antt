@@ -18,9 +18,11 @@ returns c =
     let s = j .before .before .before .before .before .before .before in
     let w = judged-words (s .pre) (j .judge .ensures) in
     let a = s .args in
-    let f = holds (formulaAt (a .t .nodes) (a .place)) (a .older .now ++ a .newer .now) in
-    (w .0, zeros-behind (packed (a .count) f) (a .out .now) (j .judge .last .1 .1 .1 .1 .1 .1 .0) (a .m) (words (a .count)) (length-packed (a .count) f) (s .pre .room) (s .pre .out-words) (w .1)
-        (a .m - words (a .count)) refl (k .clear .ensures))
+    let f = holds (formulaAt (a .t .nodes) (a .place)) (a .older .now ++ a .newer .now) in (
+      w .0,
+      zeros-behind (packed (a .count) f) (a .out .now) (j .judge .last .1 .1 .1 .1 .1 .1 .0) (a .m) (words (a .count)) (length-packed (a .count) f) (s .pre .room) (s .pre .out-words) (w .1)
+          (a .m - words (a .count)) refl (k .clear .ensures),
+    )
 
 pub write-verdicts-spec : {M : Type 1} → statement M
 write-verdicts-spec =

@@ -1,0 +1,194 @@
+//! Verdicts of whole traces, against the naive evaluator.
+use juntreak_tests::library::{verdicts, TableBytes};
+use juntreak_tests::model::{self, Node, Rule, Table};
+use juntreak_tests::random::{damage, redundant, table, trace, words, Random};
+use juntreak_tests::same;
+
+/// One call over dirty buffers of the given lengths, every word compared; returns the number and out.
+fn compare(r: &mut Random, bytes: &TableBytes, rule: u32, states: &[u32], scratch: usize, out: usize) -> (u32, Vec<u64>) {
+    let (mut scratch, mut out) = (words(r, scratch), words(r, out));
+    let (mut scratch_wanted, mut out_wanted) = (scratch.clone(), out.clone());
+    let number = verdicts(bytes, rule, states, &mut scratch, &mut out);
+    let wanted = model::whole(bytes, rule, states, &mut scratch_wanted, &mut out_wanted);
+    assert_eq!(number, wanted);
+    same("scratch", &scratch, &scratch_wanted);
+    same("out", &out, &out_wanted);
+    if number == 0 {
+        assert!(scratch[..5280].iter().all(|w| *w == 0));
+    }
+    (number, out)
+}
+
+/// An accepted call whose buffers are now and then longer than needed; returns the verdicts.
+fn accepted(r: &mut Random, t: &Table, rule: usize, states: &[u32]) -> Vec<bool> {
+    let scratch = 5280 + r.pick(&[0, 0, 1, 9]);
+    let out = states.len().div_ceil(64) + r.pick(&[0, 1, 5]);
+    let (number, out) = compare(r, &t.bytes(), rule as u32, states, scratch, out);
+    assert_eq!(number, 0);
+    (0..states.len()).map(|i| out[i / 64] >> (i % 64) & 1 == 1).collect()
+}
+
+fn any_table(r: &mut Random, count: usize, longest: u16) -> Table {
+    if r.chance(4) {
+        redundant(r, count, longest)
+    } else {
+        table(r, count, longest)
+    }
+}
+
+#[test]
+fn random_tables_on_short_traces() {
+    let mut r = Random(11);
+    let (mut yes, mut no) = (0u64, 0u64);
+    for _ in 0..6_000 {
+        let count = r.below(64) as usize + 1;
+        let count = r.pick(&[count, count, 1, 64, count.min(6), count.min(6)]);
+        let longest = r.pick(&[4095, 4095, 300, 70, 9, 0]);
+        let t = any_table(&mut r, count, longest);
+        let n = r.below(200) as usize;
+        let n = r.pick(&[n, n, n.min(130), n.min(20), 0, 1, 63, 64, 65, 127, 128, 129]);
+        let states = trace(&mut r, n);
+        let rule = r.below(t.rules.len() as u64) as usize;
+        let got = accepted(&mut r, &t, rule, &states);
+        let naive = t.verdicts(t.rules[rule].watched as usize, &states);
+        assert!(got == naive, "{t:?} rule {rule} {states:?}");
+        for v in naive {
+            *(if v { &mut yes } else { &mut no }) += 1;
+        }
+    }
+    assert!(yes > 10_000 && no > 10_000, "{yes} {no}");
+}
+
+#[test]
+fn random_tables_on_long_traces() {
+    let mut r = Random(12);
+    for round in 0..600 {
+        let count = if round % 10 == 0 { 64 } else { 1 + r.below(8) as usize };
+        let longest = r.pick(&[4095, 4095, 1000, 300]);
+        let t = any_table(&mut r, count, longest);
+        let n = 200 + r.below(4921) as usize;
+        let n = r.pick(&[n, n, 5120, 5119, 5057, 5056, 4096, 4095, 1024]);
+        let states = trace(&mut r, n);
+        for rule in 0..t.rules.len().min(3) {
+            accepted(&mut r, &t, rule, &states);
+        }
+    }
+    // The naive evaluator on long traces: few nodes, windows of at most 300 ticks.
+    for _ in 0..40 {
+        let count = 1 + r.below(4) as usize;
+        let t = table(&mut r, count, 300);
+        let n = r.pick(&[5120, 5119, 4097, 2000]);
+        let states = trace(&mut r, n);
+        let got = accepted(&mut r, &t, 0, &states);
+        assert!(got == t.verdicts(t.rules[0].watched as usize, &states), "{t:?}");
+    }
+}
+
+/// Each temporal kind at chosen limits: word limits, single points, the longest intervals.
+#[test]
+fn intervals_at_the_limits() {
+    let mut r = Random(13);
+    let limits = [0u16, 1, 2, 31, 32, 62, 63, 64, 65, 127, 128, 129, 1023, 1024, 4032, 4084, 4094, 4095];
+    for kind in 7..=10 {
+        for lo in limits {
+            for hi in limits {
+                if lo > hi {
+                    continue;
+                }
+                let signal = |arg| Node { kind: 1, arg, lo: 0, hi: 0, left: 0, right: 0 };
+                let right = if kind >= 9 { 1 } else { 0 };
+                let node = Node { kind, arg: 0, lo, hi, left: 0, right };
+                let t = Table { nodes: vec![signal(0), signal(1), node], rules: vec![Rule { name: 1, watched: 2 }] };
+                let wide = r.below(5121) as usize;
+                for n in [0, 1, 64, 200, wide, 5120] {
+                    let states = trace(&mut r, n);
+                    let got = accepted(&mut r, &t, 0, &states);
+                    if n <= 200 {
+                        assert!(got == t.verdicts(2, &states), "{t:?}");
+                    }
+                }
+            }
+        }
+    }
+}
+
+#[test]
+fn the_two_evaluators_agree() {
+    let mut r = Random(14);
+    for _ in 0..2_000 {
+        let count = 1 + r.below(30) as usize;
+        let longest = r.pick(&[4095, 300, 70, 9]);
+        let t = any_table(&mut r, count, longest);
+        let n = r.below(120) as usize;
+        let states = trace(&mut r, n);
+        assert_eq!(t.verdicts(count - 1, &states), t.quick(count - 1, &states), "{t:?} {states:?}");
+    }
+}
+
+#[test]
+fn refusals_and_their_order() {
+    let mut r = Random(15);
+    let mut seen = [0u32; 26];
+    for _ in 0..40 {
+        for case in 0..32u32 {
+            let is = |bit: u32| case >> bit & 1 == 1;
+            let count = 1 + r.below(12) as usize;
+            let t = table(&mut r, count, 300);
+            let mut bytes = t.bytes();
+            while is(0) && model::sound(&bytes).is_some() {
+                damage(&mut r, &mut bytes);
+            }
+            let rules = t.rules.len() as u32;
+            let rule = if is(1) { r.pick(&[rules, rules + 1, 8, 256, u32::MAX]) } else { r.below(rules as u64) as u32 };
+            let few = r.below(300) as usize;
+            let n = if is(2) { r.pick(&[5121, 5122, 6000]) } else { r.pick(&[0, 1, few, few, 5120]) };
+            let scratch = if is(3) { r.pick(&[0, 1, 5279]) } else { 5280 };
+            let needed = n.div_ceil(64);
+            // No length of out is too short for no states.
+            let out = if is(4) { r.pick(&[0, needed.saturating_sub(1)]) } else { needed };
+            let states = trace(&mut r, n);
+            let (number, _) = compare(&mut r, &bytes, rule, &states, scratch, out);
+            let wanted = if is(0) {
+                25
+            } else if is(1) {
+                21
+            } else if is(2) {
+                22
+            } else if is(3) || out < needed {
+                23
+            } else {
+                0
+            };
+            assert_eq!(number, wanted);
+            seen[number as usize] += 1;
+        }
+    }
+    for number in [0, 21, 22, 23, 25] {
+        assert!(seen[number] > 20, "{number}");
+    }
+}
+
+#[test]
+fn worked_rows() {
+    let mut r = Random(16);
+    let states = [2, 2, 1, 0, 2, 3, 0, 0];
+    // Places: 0 is p, 1 is q, 2 is true, 3 is false.
+    let rows: [(u8, u16, u16, u8, u8, &str); 7] = [
+        (7, 1, 3, 0, 0, "11111000"),
+        (8, 1, 2, 1, 0, "00010001"),
+        (9, 0, 3, 1, 0, "11101100"),
+        (9, 2, 2, 0, 1, "00110000"),
+        (10, 0, 1, 1, 0, "00000100"),
+        (7, 2, 3, 2, 0, "11111100"),
+        (8, 2, 3, 3, 0, "00000011"),
+    ];
+    for (kind, lo, hi, left, right, row) in rows {
+        let leaf = |kind, arg| Node { kind, arg, lo: 0, hi: 0, left: 0, right: 0 };
+        let node = Node { kind, arg: 0, lo, hi, left, right };
+        let t = Table { nodes: vec![leaf(1, 0), leaf(1, 1), leaf(2, 0), leaf(3, 0), node], rules: vec![Rule { name: 1, watched: 4 }] };
+        let text = |v: Vec<bool>| -> String { v.iter().map(|x| if *x { '1' } else { '0' }).collect() };
+        assert_eq!(text(accepted(&mut r, &t, 0, &states)), row);
+        assert_eq!(text(t.verdicts(4, &states)), row);
+        assert_eq!(text(t.quick(4, &states)), row);
+    }
+}
