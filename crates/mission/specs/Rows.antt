@@ -1,29 +1,49 @@
 -- Document 01's marked rows, with what the definitions compute for each and what is printed there.
 use Prim.Native.Nat.{ℕ, zero, suc, _+_, _*_}
 use mathlib.Core.Bool.{true, false}
-use mathlib.Core.List.{List, [], _∷_}
-use lib.ListN.{length}
+use mathlib.Core.List.{List, [], _∷_, _++_}
+use lib.ListN.{length, getD, take, replicate}
 use Rattle.lists.specs.Bits.{digit}
+use Rattle.lists.specs.Sequence.{padded}
 use Rattle.mltl.specs.Mltl.{Formula, signal, const, F, G, U, R, holds}
 use Rattle.interval.specs.Parts.{parts}
+use Rattle.table.specs.declared.Table.{Table}
+use Rattle.table.specs.Nodes.{noNode, noRule}
+use Rattle.session.specs.declared.Session.{Session}
+use Rattle.session.specs.Session.{Effect, opening, feeding, closing}
 
--- a formula with its verdicts on a trace as binary digits, tick 0 first; a length v with its parts
+-- a formula with its verdicts on a trace as binary digits, tick 0 first; a length v with its parts; a session over a table, fed two
+-- blocks and closed, with the count, the first word and the states kept of each feed, and the count and the first word of the close
 pub data Row : Type 0 where
   verdicts : Formula → List ℕ → ℕ → Row
   splits : ℕ → List ℕ → Row
+  streamed : Table → List ℕ → List ℕ → List ℕ → Row
 
 -- the verdicts of the first k ticks as binary digits
 abbrev pub verdictDigits : ℕ → Formula → List ℕ → ℕ
 verdictDigits zero f xs = 0
 verdictDigits (suc k) f xs = 2 * verdictDigits k f xs + digit (holds f xs k)
 
+-- what the three calls of a session row answer and leave, on buffers of zeros
+abbrev pub told : Effect → ℕ → List ℕ
+told e kept = e .answer .count ∷ getD (e .out) 0 0 ∷ take kept (e .history)
+
+abbrev pub stream : Session → List ℕ → List ℕ → List ℕ
+stream s a b =
+    let first : Effect = feeding s a (replicate 4095 0) (replicate 5280 0) (replicate 16 0) in
+    let second : Effect = feeding (first .answer .session) b (first .history) (replicate 5280 0) (replicate 16 0) in
+    let last : Effect = closing (second .answer .session) (second .history) (replicate 5280 0) (replicate 64 0) in
+    told first 3 ++ told second 3 ++ told last 0
+
 abbrev pub computed : Row → List ℕ
 computed (verdicts f xs n) = verdictDigits (length xs) f xs ∷ []
 computed (splits v ks) = parts v
+computed (streamed t a b ns) = stream (opening t 0 .session) a b
 
 abbrev pub printed : Row → List ℕ
 printed (verdicts f xs n) = n ∷ []
 printed (splits v ks) = ks
+printed (streamed t a b ns) = ns
 
 abbrev pub P : List ℕ
 P = 2 ∷ 2 ∷ 1 ∷ 0 ∷ 2 ∷ 3 ∷ 0 ∷ 0 ∷ []
@@ -33,6 +53,16 @@ p = signal 0
 
 abbrev pub q : Formula
 q = signal 1
+
+-- the table of F[1,3]p under the name 7
+abbrev pub finallyP : Table
+finallyP = record {
+  nodes = padded noNode 64
+      (record { kind = 1; arg = 0; lo = 0; hi = 0; left = 0; right = 0 } ∷ record { kind = 7; arg = 0; lo = 1; hi = 3; left = 0; right = 0 } ∷ []);
+  «node_count» = 2;
+  rules = padded noRule 8 (record { name = 7; watched = 1 } ∷ []);
+  «rule_count» = 1;
+}
 
 abbrev pub rows : List Row
 rows =
@@ -49,4 +79,5 @@ rows =
     ∷ splits 13 (3 ∷ 2 ∷ 2 ∷ [])
     ∷ splits 4084 (11 ∷ 10 ∷ 9 ∷ 8 ∷ 7 ∷ 6 ∷ 5 ∷ 4 ∷ 3 ∷ 2 ∷ 1 ∷ 1 ∷ [])
     ∷ splits 4095 (12 ∷ [])
+    ∷ streamed finallyP (2 ∷ 2 ∷ 1 ∷ 0 ∷ 2 ∷ []) (3 ∷ 0 ∷ 0 ∷ []) (2 ∷ 3 ∷ 1 ∷ 0 ∷ 2 ∷ 3 ∷ 7 ∷ 3 ∷ 0 ∷ 0 ∷ 3 ∷ 0 ∷ [])
     ∷ []
