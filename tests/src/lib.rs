@@ -2,6 +2,7 @@
 pub mod library;
 pub mod model;
 pub mod random;
+pub mod twin;
 
 /// Fails at the first place where two buffers differ.
 pub fn same<T: PartialEq + std::fmt::Debug>(what: &str, got: &[T], want: &[T]) {

@@ -1,4 +1,4 @@
-//! examples/stream.c, compiled against include/juntreak.h and the static library, and run.
+//! The programs of examples/, compiled against include/juntreak.h and the static library, run, and compared with what they should print.
 use std::path::Path;
 use std::process::{Command, Output};
 
@@ -8,24 +8,34 @@ fn run(command: &mut Command) -> Output {
     output
 }
 
-#[test]
-fn the_example_prints_the_worked_lines() {
+/// What a program of examples/ prints.
+fn printed(name: &str) -> String {
     let root = Path::new(env!("CARGO_MANIFEST_DIR")).join("..");
-    let directory = std::env::temp_dir().join(format!("juntreak-example-{}", std::process::id()));
+    let directory = std::env::temp_dir().join(format!("juntreak-{name}-{}", std::process::id()));
     std::fs::create_dir_all(&directory).unwrap();
-    let program = directory.join("stream");
+    let program = directory.join(name);
     // No library is named beside the archive, so it may need symbols of libc only.
     run(Command::new("gcc")
         .args(["-std=c99", "-Wall", "-Wextra", "-Werror", "-I"])
         .arg(root.join("include"))
         .arg("-o")
         .arg(&program)
-        .arg(root.join("examples/stream.c"))
+        .arg(root.join(format!("examples/{name}.c")))
         .arg(root.join("target/staticlib/libcapi.a")));
     let output = run(&mut Command::new(&program));
     std::fs::remove_dir_all(&directory).unwrap();
-    assert_eq!(String::from_utf8_lossy(&output.stdout), "7 0 1\n7 1 1\n7 2 0\n7 3 0\n");
     assert!(output.stderr.is_empty());
+    String::from_utf8(output.stdout).unwrap()
+}
+
+#[test]
+fn the_example_prints_the_worked_lines() {
+    assert_eq!(printed("stream"), "7 0 1\n7 1 1\n7 2 0\n7 3 0\n");
+}
+
+#[test]
+fn the_rows_are_those_worked_by_hand() {
+    assert_eq!(printed("rows"), include_str!("../../examples/rows.txt"));
 }
 
 #[test]

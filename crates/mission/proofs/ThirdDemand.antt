@@ -121,6 +121,8 @@ pub third-demand : ThirdDemand
 third-demand = record {
   claim = claim;
   beginnings = λ m cs s h ended l j. beginning (sessionOf m) (m .history) j l;
+  reopened = λ m cs s h l.
+      come (record { table = m .simplified .table; rule = m .rule; seen = 0 }) (m .history) refl (rw (fresh m) at l) .session ∙ sym (fresh m);
   calls-refused = refused-exactly;
   simplify-refused = simplify-exactly;
   open-refused = open-exactly;

@@ -1,4 +1,5 @@
--- The third demand: every list of calls on a session over a book that was read and simplified.
+-- The third demand: every list of calls on a session over a book that was read and simplified. docs/ARCHITECTURE.md, 'Reading the third
+-- demand', leads from document 01's sentences to these lines, and from each excluded program to the line that excludes it.
 use Prim.Native.Nat.{ℕ}
 use mathlib.Core.Path.{_≡_}
 use mathlib.Core.Logic.{_↔_}
@@ -74,6 +75,8 @@ pub record ThirdDemand : Type 0 where
   -- every beginning of such a list is such a list
   pub beginnings : (m : Start) (cs : List Call) (s : Session) (h : List ℕ) (ended : Bool) → Calls (sessionOf m) (m .history) cs s h ended
       → (j : ℕ) → Beginning (sessionOf m) (m .history) (take j cs)
+  -- after an accepted close the session is as open gave it: a new list can begin with it
+  pub reopened : (m : Start) (cs : List Call) (s : Session) (h : List ℕ) → Calls (sessionOf m) (m .history) cs s h true → s ≡ sessionOf m
   -- a call, and before it the simplifier's and the open, is refused exactly where a row fits it
   pub calls-refused : (c : Call) → Meets c → (¬ (numberOf c ≡ 0)) ↔ (someFits (rowsOf c) ≡ true)
   pub simplify-refused : (t : Table) (r : Simplified) → Promised t r → (¬ (r .number ≡ 0)) ↔ (someFits (simplifyRows t) ≡ true)

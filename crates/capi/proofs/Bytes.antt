@@ -1,0 +1,103 @@
+-- A session's bytes and back: `read-session`, that a fit session is what its bytes hold. Assumes nothing.
+use Prim.Native.Nat.{ℕ, _+_, _*_, _/_, _%_, _≤_, _<_}
+use native.Mathlib.Nat.{div-div-eq-div-mul}
+use native.Mathlib.Omega.{arith}
+use mathlib.Core.Path.{_≡_, refl, sym, ap, _∙_}
+use mathlib.Core.List.{List, _++_}
+use lib.ListN.{length, getD, take, drop, set, length-append, length-drop, length-set, take-append-drop}
+use lib.Seq.{getD-set-same, getD-set-other, take-set-le, take-at}
+use borrow.Author.Tests.{eq-eqb}
+use Rattle.lists.specs.Sequence.{ticks}
+use Rattle.lists.proofs.Sequences.{length-ticks}
+use Rattle.table.specs.declared.Table.{Table}
+use Rattle.table.specs.Sound.{Sound}
+use Rattle.flat.specs.Flat.{tableByte, tableBytes, tableFrom, written}
+use Rattle.flat.proofs.Laws.{read-written, written-is}
+use Rattle.session.specs.declared.Session.{Session}
+use Rattle.capi.specs.Answers.{fourAt, putFour, sessionFrom, sessionWritten}
+
+module _ (b : List ℕ) (at x : ℕ) where
+  -- the list after one, two and three bytes
+  abbrev b₁ : List ℕ
+  b₁ = set b at (x % 256)
+
+  abbrev b₂ : List ℕ
+  b₂ = set b₁ (at + 1) (x / 256 % 256)
+
+  abbrev b₃ : List ℕ
+  b₃ = set b₂ (at + 2) (x / 65536 % 256)
+
+  pub length-four : length (putFour b at x) ≡ length b
+  length-four = simp length-set
+
+  -- the four bytes that were written
+  pub four-same : at + 4 ≤ length b → x < 4294967296 → fourAt (putFour b at x) at ≡ x
+  four-same l k =
+      let v : ℕ = x / 16777216 % 256 in
+      let l₁ : length b₁ ≡ length b = length-set b at (x % 256) in
+      let l₂ : length b₂ ≡ length b₁ = length-set b₁ (at + 1) (x / 256 % 256) in
+      let l₃ : length b₃ ≡ length b₂ = length-set b₂ (at + 2) (x / 65536 % 256) in
+      let e₀ : getD (set b₃ (at + 3) v) at 0 ≡ x % 256 =
+      getD-set-other b₃ (at + 3) at v 0 (λ p. omega arith) ∙ getD-set-other b₂ (at + 2) at (x / 65536 % 256) 0 (λ p. omega arith)
+      ∙ getD-set-other b₁ (at + 1) at (x / 256 % 256) 0 (λ p. omega arith) ∙ getD-set-same b at (x % 256) 0 (omega arith) in
+      let e₁ : getD (set b₃ (at + 3) v) (at + 1) 0 ≡ x / 256 % 256 =
+      getD-set-other b₃ (at + 3) (at + 1) v 0 (λ p. omega arith) ∙ getD-set-other b₂ (at + 2) (at + 1) (x / 65536 % 256) 0 (λ p. omega arith)
+      ∙ getD-set-same b₁ (at + 1) (x / 256 % 256) 0 (omega arith) in
+      let e₂ : getD (set b₃ (at + 3) v) (at + 2) 0 ≡ x / 65536 % 256 =
+      getD-set-other b₃ (at + 3) (at + 2) v 0 (λ p. omega arith) ∙ getD-set-same b₂ (at + 2) (x / 65536 % 256) 0 (omega arith) in
+      let e₃ : getD (set b₃ (at + 3) v) (at + 3) 0 ≡ v = getD-set-same b₃ (at + 3) v 0 (omega arith) in
+      sum e₀ e₁ e₂ e₃
+    where
+      sum : {p q r s : ℕ} → p ≡ x % 256 → q ≡ x / 256 % 256 → r ≡ x / 65536 % 256 → s ≡ x / 16777216 % 256 → p + 256 * q + 65536 * r + 16777216 * s ≡ x
+      sum p q r s =
+          let two : x / 256 / 256 ≡ x / 65536 = div-div-eq-div-mul x 256 256 in
+          let three : x / 65536 / 256 ≡ x / 16777216 = div-div-eq-div-mul x 65536 256 in
+          let c : x / 65536 ≡ 256 * (x / 16777216) + x / 65536 % 256 = omega arith in
+          let d : x / 256 ≡ 256 * (x / 65536) + x / 256 % 256 = omega arith in
+          let e : x ≡ 256 * (x / 256) + x % 256 = omega arith in
+          let f : x / 16777216 % 256 ≡ x / 16777216 = omega arith in
+          omega arith
+
+  -- those elsewhere stay
+  stays : (j : ℕ) → (j ≡ at → ⊥) → (j ≡ at + 1 → ⊥) → (j ≡ at + 2 → ⊥) → (j ≡ at + 3 → ⊥) → getD (putFour b at x) j 0 ≡ getD b j 0
+  stays j p q r s =
+      getD-set-other b₃ (at + 3) j (x / 16777216 % 256) 0 s ∙ getD-set-other b₂ (at + 2) j (x / 65536 % 256) 0 r
+      ∙ getD-set-other b₁ (at + 1) j (x / 256 % 256) 0 q ∙ getD-set-other b at j (x % 256) 0 p
+
+  pub four-other : (j : ℕ) → j + 4 ≤ at → fourAt (putFour b at x) j ≡ fourAt b j
+  four-other j h =
+      let e : (i : ℕ) → i < 4 → getD (putFour b at x) (j + i) 0 ≡ getD b (j + i) 0 =
+      λ i l. stays (j + i) (λ p. omega arith) (λ p. omega arith) (λ p. omega arith) (λ p. omega arith) in
+      let e₀ : getD (putFour b at x) j 0 ≡ getD b j 0 = stays j (λ p. omega arith) (λ p. omega arith) (λ p. omega arith) (λ p. omega arith) in
+      rw (e₀, e 1 (omega arith), e 2 (omega arith), e 3 (omega arith))
+
+  pub take-four : (n : ℕ) → n ≤ at → take n (putFour b at x) ≡ take n b
+  take-four n h =
+      take-set-le n b₃ (at + 3) (x / 16777216 % 256) (omega arith) ∙ take-set-le n b₂ (at + 2) (x / 65536 % 256) (omega arith)
+      ∙ take-set-le n b₁ (at + 1) (x / 256 % 256) (omega arith) ∙ take-set-le n b at (x % 256) h
+
+pub read-session : (s : Session) (b : List ℕ) → length b ≡ 558 → Sound (s .table) → s .rule < 4294967296 → s .seen < 4294967296
+    → sessionFrom (sessionWritten s b) ≡ s
+unfolding sessionFrom sessionWritten
+read-session s b l t r n =
+    let w : List ℕ = written (s .table) b in
+    let rule : ℕ = s .rule % 4294967296 in
+    let p₁ : List ℕ = putFour w 546 rule in
+    let p₂ : List ℕ = putFour p₁ 550 (s .seen) in
+    let p₃ : List ℕ = putFour p₂ 554 0 in
+    let tb : List ℕ = tableBytes (s .table) in
+    let lt : length tb ≡ 546 = length-ticks (tableByte (s .table)) 546 in
+    let is : w ≡ tb ++ drop 546 b = written-is (s .table) b (omega arith) in
+    let lw : length w ≡ 558 = ap length is ∙ length-append tb (drop 546 b) ∙ omega (arith, lt, length-drop 546 b) in
+    let l₁ : length p₁ ≡ 558 = length-four w 546 rule ∙ lw in
+    let l₂ : length p₂ ≡ 558 = length-four p₁ 550 (s .seen) ∙ l₁ in
+    let high : fourAt p₃ 554 ≡ 0 = four-same p₂ 554 0 (omega arith) (omega arith) in
+    let seen : fourAt p₃ 550 ≡ s .seen = four-other p₂ 554 0 550 (omega arith) ∙ four-same p₁ 550 (s .seen) (omega arith) n in
+    let rules : fourAt p₃ 546 ≡ s .rule =
+    four-other p₂ 554 0 546 (omega arith) ∙ four-other p₁ 550 (s .seen) 546 (omega arith) ∙ four-same w 546 rule (omega arith) (omega arith) ∙ omega arith in
+    let first : take 546 p₃ ≡ tb =
+    take-four p₂ 554 0 546 (omega arith) ∙ take-four p₁ 550 (s .seen) 546 (omega arith) ∙ take-four w 546 rule 546 (omega arith) ∙ ap (take 546) is
+    ∙ take-at tb (drop 546 b) 546 lt in
+    let table : tableFrom p₃ ≡ s .table =
+    ap tableFrom (sym (take-append-drop 546 p₃) ∙ ap (λ (i : List ℕ). i ++ drop 546 p₃) first) ∙ read-written (s .table) (drop 546 p₃) t in
+    rw (eq-eqb (fourAt p₃ 554) 0 high) (λ i. record { table = table i; rule = rules i; seen = seen i })

@@ -1,0 +1,229 @@
+//! A plain Rust evaluator by the same word algorithm and with the same duties as the proved one, to compare speeds with: it parses
+//! and checks the table, computes the nodes that are needed on 64-bit words in registers of 80, and clears the scratch.
+use crate::model::{Node, Rule};
+
+pub struct Parsed {
+    nodes: [Node; 64],
+    count: usize,
+    rules: [Rule; 8],
+    rule_count: usize,
+}
+
+const NO_NODE: Node = Node { kind: 0, arg: 0, lo: 0, hi: 0, left: 0, right: 0 };
+const NO_RULE: Rule = Rule { name: 0, watched: 0 };
+
+fn parse(b: &[u8; 546]) -> Option<Parsed> {
+    let mut t = Parsed { nodes: [NO_NODE; 64], count: b[0] as usize, rules: [NO_RULE; 8], rule_count: b[1] as usize };
+    for (n, e) in t.nodes.iter_mut().zip(b[2..514].chunks_exact(8)) {
+        *n = Node { kind: e[0], arg: e[1], lo: u16::from_le_bytes([e[2], e[3]]), hi: u16::from_le_bytes([e[4], e[5]]), left: e[6], right: e[7] };
+    }
+    for (r, e) in t.rules.iter_mut().zip(b[514..].chunks_exact(4)) {
+        if e[3] != 0 {
+            return None;
+        }
+        *r = Rule { name: u16::from_le_bytes([e[0], e[1]]), watched: e[2] };
+    }
+    Some(t)
+}
+
+fn fits(n: &Node, place: usize) -> bool {
+    let below = |used: bool, limit: usize| if used { limit } else { 1 };
+    let k = n.kind;
+    (1..=10).contains(&k)
+        && (n.arg as usize) < below(k == 1, 32)
+        && n.lo <= n.hi
+        && (n.hi as usize) < below(k >= 7, 4096)
+        && (n.left as usize) < below(k >= 4, place)
+        && (n.right as usize) < below(matches!(k, 5 | 6 | 9 | 10), place)
+}
+
+fn sound(t: &Parsed) -> bool {
+    if t.count > 64 || t.rule_count == 0 || t.rule_count > 8 {
+        return false;
+    }
+    let mut delays = [0u32; 64];
+    for (i, n) in t.nodes.iter().enumerate() {
+        if i >= t.count {
+            if *n != NO_NODE {
+                return false;
+            }
+            continue;
+        }
+        if !fits(n, i) {
+            return false;
+        }
+        let (a, b) = (delays[n.left as usize], delays[n.right as usize]);
+        delays[i] = match n.kind {
+            1..=3 => 0,
+            4 => a,
+            5 | 6 => a.max(b),
+            7 | 8 => n.hi as u32 + a,
+            _ => n.hi as u32 + a.max(b),
+        };
+        if delays[i] > 4095 {
+            return false;
+        }
+    }
+    for (i, r) in t.rules.iter().enumerate() {
+        if i >= t.rule_count {
+            if *r != NO_RULE {
+                return false;
+            }
+        } else if r.name == 0 || r.name > 255 || r.watched as usize >= t.count || t.rules[..i].iter().any(|q| q.name == r.name) {
+            return false;
+        }
+    }
+    true
+}
+
+/// Word w of a register moved down by `by` bits.
+#[inline(always)]
+fn moved(s: &[u64], q: usize, r: u32, w: usize) -> u64 {
+    let low = s.get(w + q).copied().unwrap_or(0);
+    let high = s.get(w + q + 1).copied().unwrap_or(0);
+    low >> r | high << 1 << (63 - r)
+}
+
+fn pass(s: &mut [u64], by: usize, f: impl Fn(u64, u64) -> u64) {
+    let (q, r) = (by / 64, (by % 64) as u32);
+    let m = s.len();
+    for w in 0..m.saturating_sub(q + 1) {
+        s[w] = f(s[w], s[w + q] >> r | s[w + q + 1] << 1 << (63 - r));
+    }
+    for w in m.saturating_sub(q + 1)..m {
+        s[w] = f(s[w], moved(s, q, r, w));
+    }
+}
+
+fn parts(lo: u16, hi: u16) -> impl Iterator<Item = u32> {
+    let mut rest = (hi - lo) as u32;
+    std::iter::from_fn(move || {
+        (rest > 0).then(|| {
+            let k = 31 - (rest + 1).leading_zeros();
+            rest -= (1 << k) - 1;
+            k
+        })
+    })
+}
+
+fn eventually(s: &mut [u64], lo: u16, hi: u16) {
+    pass(s, lo as usize, |_, b| b);
+    for k in parts(lo, hi) {
+        for j in 0..k {
+            pass(s, 1 << j, |a, b| a | b);
+        }
+    }
+}
+
+fn until(right: &mut [u64], left: &mut [u64], work: &mut [u64], lo: u16, hi: u16) {
+    pass(right, lo as usize, |_, b| b);
+    pass(left, lo as usize, |_, b| b);
+    for k in parts(lo, hi) {
+        work.copy_from_slice(left);
+        for j in 0..k {
+            let by = 1usize << j;
+            let (q, r) = (by / 64, (by % 64) as u32);
+            for w in 0..right.len() {
+                right[w] |= work[w] & moved(right, q, r, w);
+            }
+            pass(work, by, |a, b| a & b);
+        }
+    }
+}
+
+fn below(n: usize, w: usize) -> u64 {
+    match n.saturating_sub(64 * w) {
+        0 => 0,
+        k if k >= 64 => !0,
+        k => (1 << k) - 1,
+    }
+}
+
+fn flip(s: &mut [u64], n: usize) {
+    for (w, x) in s.iter_mut().enumerate() {
+        *x = below(n, w) & !*x;
+    }
+}
+
+fn column(s: &mut [u64], states: &[u32], signal: u8) {
+    for (x, block) in s.iter_mut().zip(states.chunks(64)) {
+        *x = block.iter().enumerate().fold(0, |x, (j, state)| x | ((state >> signal & 1) as u64) << j);
+    }
+}
+
+pub fn verdicts(table: &[u8; 546], rule: u32, states: &[u32], scratch: &mut [u64], out: &mut [u64]) -> u32 {
+    let Some(t) = parse(table) else { return 25 };
+    if !sound(&t) {
+        return 25;
+    }
+    if rule as usize >= t.rule_count {
+        return 21;
+    }
+    let n = states.len();
+    let m = n.div_ceil(64);
+    if n > 5120 {
+        return 22;
+    }
+    if scratch.len() < 5280 || out.len() < m {
+        return 23;
+    }
+    let k = t.rules[rule as usize].watched as usize;
+    let mut needed = [false; 64];
+    needed[k] = true;
+    for i in (0..=k).rev() {
+        if needed[i] && t.nodes[i].kind >= 4 {
+            needed[t.nodes[i].left as usize] = true;
+            if matches!(t.nodes[i].kind, 5 | 6 | 9 | 10) {
+                needed[t.nodes[i].right as usize] = true;
+            }
+        }
+    }
+    for i in (0..=k).filter(|i| needed[*i]) {
+        node(&t.nodes[i], i, m, n, states, &mut scratch[..5280]);
+    }
+    out[..m].copy_from_slice(&scratch[80 * k..80 * k + m]);
+    scratch[..5280].fill(0);
+    0
+}
+
+fn node(x: &Node, i: usize, m: usize, n: usize, states: &[u32], scratch: &mut [u64]) {
+    let (operands, rest) = scratch.split_at_mut(80 * i);
+    let (own, work) = rest.split_at_mut(5120 - 80 * i);
+    let own = &mut own[..m];
+    let (spare, third) = work.split_at_mut(80);
+    let (spare, third) = (&mut spare[..m], &mut third[..m]);
+    let register = |p: u8| &operands[80 * p as usize..80 * p as usize + m];
+    match x.kind {
+        1 => column(own, states, x.arg),
+        2 => own.iter_mut().enumerate().for_each(|(w, y)| *y = below(n, w)),
+        3 => own.fill(0),
+        4 => {
+            own.copy_from_slice(register(x.left));
+            flip(own, n);
+        }
+        5 => own.iter_mut().zip(register(x.left).iter().zip(register(x.right))).for_each(|(y, (a, b))| *y = a & b),
+        6 => own.iter_mut().zip(register(x.left).iter().zip(register(x.right))).for_each(|(y, (a, b))| *y = a | b),
+        7 => {
+            own.copy_from_slice(register(x.left));
+            eventually(own, x.lo, x.hi);
+        }
+        8 => {
+            own.copy_from_slice(register(x.left));
+            flip(own, n);
+            eventually(own, x.lo, x.hi);
+            flip(own, n);
+        }
+        _ => {
+            own.copy_from_slice(register(x.right));
+            spare.copy_from_slice(register(x.left));
+            if x.kind == 10 {
+                flip(own, n);
+                flip(spare, n);
+            }
+            until(own, spare, third, x.lo, x.hi);
+            if x.kind == 10 {
+                flip(own, n);
+            }
+        }
+    }
+}
