@@ -173,6 +173,20 @@ judged-words {t} {place} {trace} {count} {m} {scratch} {out} w j =
 pub fit-short : {s : Session} {d : ℕ} {h x : List ℕ} → Fit s d h x → d ≤ 4095
 fit-short {s} f = omega (arith, f .delay, watched-short (s .table) (s .rule) (f .sound) (f .rule))
 
+pub kept-short : {s : Session} {d n : ℕ} {h x : List ℕ} → Fit s d h x → n ≡ min (s .seen) d → n ≤ 4095
+kept-short f e = omega (arith, e, fit-short f)
+
+-- the rule is one of 8, and it watches one of 64 nodes
+pub fit-rule : {s : Session} {d : ℕ} {h x : List ℕ} → Fit s d h x → s .rule < 8
+fit-rule f = omega (arith, f .rule, f .sound .few-rules)
+
+pub fit-node : {s : Session} {d : ℕ} {h x : List ℕ} → Fit s d h x → ruleAt (s .table) (s .rule) .watched < 64
+fit-node {s} f = omega (arith, f .sound .rule (s .rule) (f .rule) .watched, f .sound .few-nodes)
+
+-- the first n of a list, as a part from 0 on is lent
+pub lent-part : (n : ℕ) (xs : List ℕ) → take (n - 0) xs ≡ take n xs
+lent-part n xs = let e : n - 0 ≡ n = omega arith in ap (λ (i : ℕ). take i xs) e
+
 -- ---- an accepted feed: hh states are kept, the block follows, and `left` are kept afterwards
 module _ {s : Session} {d : ℕ} {block h x o : List ℕ} (f : Feeds s d block h x o) where
   abbrev k : ℕ
