@@ -2,4 +2,3 @@ pub mod Words
 pub mod Registers
 pub mod Sweeps
 pub mod Parts
-pub mod Signals

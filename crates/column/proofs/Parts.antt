@@ -3,12 +3,11 @@ use mathlib.Core.Path.{_≡_, sym, ap, ap₂, _∙_, subst}
 use mathlib.Core.Bool.{Bool}
 use mathlib.Core.List.{List, _++_, append-assoc}
 use Prim.Native.Nat.{ℕ, _+_, _≤_}
-use native.Mathlib.Nat.{add-zero}
 use native.Mathlib.Omega.{arith}
 use lib.ListN.{length, getD, take, drop, take-append-drop, length-take, length-drop}
 use lib.Seq.{take-all, take-take, take-add, drop-drop, drop-append-le}
 use borrow.Rule.Slice.PartMut.{putMid, midOf}
-use Rattle.column.specs.Column.{register, Laid, Turned, room}
+use Rattle.column.specs.Column.{register, Laid, Turned}
 use Rattle.lists.specs.Bits.{pack}
 use Rattle.lists.proofs.Columns.{length-pack}
 use Rattle.column.proofs.Registers.{length-register, register-in, register-same, length-lay, lay-ext}
@@ -58,19 +57,6 @@ part-turned a k xs {f} h r =
 pub part-op : (op : List ℕ → ℕ → Bool) (a k m : ℕ) (xs : List ℕ) {ys : List ℕ} → k ≡ m → a + k ≤ length xs → Turned (op (midOf a k xs)) (midOf a k xs) ys
     → Laid a m (op (register a m xs)) xs (putMid a k xs ys)
 part-op op a k m xs {ys} e h r = subst (λ (n : ℕ). Laid a n (op (register a n xs)) xs (putMid a k xs ys)) e (part-turned a k xs h r)
-
--- a part that begins with one register and ends with another, of which the second was laid
-pub part-pair : (op : List ℕ → List ℕ → ℕ → Bool) (a k d m : ℕ) (xs : List ℕ) {ys : List ℕ} → room d (midOf a k xs) ≡ m → d + m ≤ k → m ≤ d → a + k ≤ length xs
-    → Laid d (room d (midOf a k xs)) (op (register d (room d (midOf a k xs)) (midOf a k xs)) (register 0 (room d (midOf a k xs)) (midOf a k xs))) (midOf a k xs) ys
-    → Laid (a + d) m (op (register (a + d) m xs) (register a m xs)) xs (putMid a k xs ys)
-part-pair op a k d m xs {ys} e l j h r =
-    let mid : List ℕ = midOf a k xs in
-    let p : Laid d m (op (register d m mid) (register 0 m mid)) mid ys = subst (λ (n : ℕ). Laid d n (op (register d n mid) (register 0 n mid)) mid ys) e r in
-    let q : Laid d m (op (register (a + d) m xs) (register a m xs)) mid ys =
-    subst (λ (c : List ℕ). Laid d m (op (register (a + d) m xs) c) mid ys) (register-part a k 0 m xs h (omega arith) ∙ ap (λ (i : ℕ). register i m xs) (add-zero a))
-    (subst (λ (c : List ℕ). Laid d m (op c (register 0 m mid)) mid ys) (register-part a k d m xs h l) p)
-    in
-    part-laid a k xs h l q
 
 -- the same column, said otherwise
 pub laid-as : (g : ℕ → Bool) {at m n : ℕ} {f : ℕ → Bool} {xs ys : List ℕ} → m ≡ n → ((t : ℕ) → f t ≡ g t) → Laid at m f xs ys → Laid at n g xs ys

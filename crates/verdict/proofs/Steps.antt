@@ -11,9 +11,11 @@ use lib.ListN.{length, take, drop}
 use lib.Seq.{drop-drop, drop-paste, drop-at, take-take, take-append-le, length-take-le}
 use Rattle.lists.specs.Bits.{bitAt, pack}
 use Rattle.lists.proofs.Columns.{length-pack, bitAt-past}
-use Rattle.column.specs.Column.{register, lay, both, Laid, Turned, IntoSecond}
+use Rattle.column.specs.Column.{register, lay, Laid, Turned}
+use Rattle.pair.specs.Pair.{both, IntoSecond}
 use Rattle.column.proofs.Registers.{length-register, register-lay, register-apart, take-lay}
-use Rattle.column.proofs.Parts.{register-part, part-pair, part-laid, part-turned, laid-length, laid-as}
+use Rattle.column.proofs.Parts.{register-part, part-laid, part-turned, laid-length, laid-as}
+use Rattle.pair.proofs.Pairs.{part-pair}
 use Rattle.verdict.specs.Windows.{third, OfThree}
 use Rattle.verdict.specs.Steps.{Place, Operand, Step}
 use Rattle.verdict.proofs.Threes.{held}

@@ -13,9 +13,12 @@ use Rattle.lists.specs.Bits.{bitAt, pack, below}
 use Rattle.lists.proofs.Columns.{bitAt-past, bitAt-pack, pack-is, pack-ext}
 use Rattle.mltl.specs.Mltl.{until, opposite}
 use Rattle.mltl.proofs.Operators.{until-now, until-past, until-split}
-use Rattle.column.specs.Column.{register, room, Laid, Turned, moved, flipped}
+use Rattle.column.specs.Column.{register, Laid, Turned, flipped}
+use Rattle.pair.specs.Pair.{room}
+use Rattle.moves.specs.Moves.{moved}
 use Rattle.column.proofs.Registers.{bitAt-pack-all, length-register, register-lay, register-apart, length-lay}
-use Rattle.column.proofs.Parts.{part-op, part-pair, laid-length}
+use Rattle.column.proofs.Parts.{part-op, laid-length}
+use Rattle.pair.proofs.Pairs.{part-pair}
 use Rattle.verdict.specs.Windows.{third, Three, First, Pair, widthOf}
 use Rattle.verdict.proofs.Windows.{until-moved, until-ext}
 

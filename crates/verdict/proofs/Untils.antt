@@ -14,7 +14,8 @@ use Rattle.lists.proofs.Tests.{and-iff}
 use Rattle.lists.proofs.Columns.{bitAt-past, pack-is, pack-ext}
 use Rattle.mltl.specs.Mltl.{until}
 use Rattle.mltl.proofs.Operators.{until-now, until-past, until-join}
-use Rattle.column.specs.Column.{register, Laid, met, reached}
+use Rattle.column.specs.Column.{register, Laid}
+use Rattle.moves.specs.Moves.{met, reached}
 use Rattle.column.proofs.Words.{mask}
 use Rattle.column.proofs.Registers.{bitAt-pack-all, length-register, register-lt, register-lay, register-apart, length-lay}
 use Rattle.verdict.specs.Windows.{First}

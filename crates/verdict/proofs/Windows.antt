@@ -22,7 +22,8 @@ use Rattle.mltl.proofs.Operators.{ever, eventually-at, until-now, until-past, e
 use Rattle.interval.specs.Parts.{parts, splitting}
 use Rattle.interval.specs.declared.Splitting.{Splitting}
 use Rattle.interval.proofs.Laws.{total, parts-total, parts-12}
-use Rattle.column.specs.Column.{Turned, joined, moved, flipped}
+use Rattle.column.specs.Column.{Turned, flipped}
+use Rattle.moves.specs.Moves.{joined, moved}
 use Rattle.column.proofs.Words.{mask}
 use Rattle.column.proofs.Registers.{bitAt-pack-all}
 use Rattle.verdict.specs.Windows.{span, widthOf}

@@ -7,7 +7,9 @@ use Prim.Native.Nat.{ℕ, _+_, _-_, _*_, _≤_, _<_}
 use lib.ListN.{length, getD, take, drop}
 use Rattle.lists.specs.Bits.{words, bitAt, pack, packed, below}
 use Rattle.mltl.specs.Mltl.{holds, eventually, opposite}
-use Rattle.column.specs.Column.{register, filled, flipped, both, signalColumn}
+use Rattle.column.specs.Column.{register, filled, flipped}
+use Rattle.pair.specs.Pair.{both}
+use Rattle.signal.specs.Signal.{signalColumn}
 use Rattle.table.specs.Nodes.{Op, Unknown, Signal, Top, Bottom, Not, And, Or, Finally, Globally, Until, Release, opOf, usesOf, noNode, formulaAt}
 use Rattle.table.specs.Sound.{fits}
 use Rattle.table.specs.declared.Node.{Node}

@@ -9,7 +9,10 @@ ghost use lib.Seq.{paste};
 ghost use Rattle.lists.specs.Bits.{bitAt, words, below};
 ghost use Rattle.lists.specs.Choice.{pick};
 ghost use Rattle.mltl.specs.Mltl.{eventually, opposite};
-ghost use Rattle.column.specs.Column.{register, Laid, both, moved, flipped, filled, signalColumn};
+ghost use Rattle.column.specs.Column.{register, Laid, flipped, filled};
+ghost use Rattle.pair.specs.Pair.{both};
+ghost use Rattle.moves.specs.Moves.{moved};
+ghost use Rattle.signal.specs.Signal.{signalColumn};
 ghost use Rattle.verdict.specs.Verdict.{told, cleared, fitsTo, enough, Judged, Answered};
 ghost use Rattle.table.specs.Nodes.{formulaAt};
 ghost use Rattle.verdict.specs.Windows.{widthOf, Interval, Eventually, Always, First, Pair, third, Three, OfThree, untilOf, releaseOf};
@@ -25,7 +28,7 @@ fn some_within(s: &mut [u64], k: usize)
     ensures { λ _. ⌜ Eventually 0 (2 ^ k - 1) (now (s .entry)) (now (s .exit)) ⌝ }
 {
     for j in 0..k {
-        column::join_moved(s, 1 << j);
+        moves::join_moved(s, 1 << j);
     }
 }
 
@@ -48,7 +51,7 @@ fn some_later(s: &mut [u64], lo: u16, hi: u16)
     let cut = interval::split(lo, hi);
     let ks = cut.parts;
     let count = cut.count;
-    column::move_down(s, lo as usize);
+    moves::move_down(s, lo as usize);
     widen(s, ks, count);
 }
 
@@ -71,8 +74,8 @@ fn until_within(s: &mut [u64], d: usize, k: usize)
     ensures { λ _. ⌜ First d (length (now (s .entry)) - d) (untilOf 0 (2 ^ k - 1) (length (now (s .entry)) - d) (register d (length (now (s .entry)) - d) (now (s .entry))) (register 0 (length (now (s .entry)) - d) (now (s .entry)))) (now (s .entry)) (now (s .exit)) ⌝ }
 {
     for j in 0..k {
-        column::reach(s, d, 1 << j);
-        column::meet_moved(&mut s[d..], 1 << j);
+        moves::reach(s, d, 1 << j);
+        moves::meet_moved(&mut s[d..], 1 << j);
     }
 }
 
@@ -86,7 +89,7 @@ fn until_parts(s: &mut [u64], d: usize, ks: [u8; 12], count: usize)
 {
     for i in 0..count {
         let k = ks[i] as usize;
-        column::copy_into(&mut s[d..], 80);
+        pair::copy_into(&mut s[d..], 80);
         until_within(s, d + 80, k);
     }
 }
@@ -98,8 +101,8 @@ fn two_down(s: &mut [u64], d: usize, by: usize)
 {
     let m = s.len() - (d + 80);
     let e = d + m;
-    column::move_down(&mut s[0..m], by);
-    column::move_down(&mut s[d..e], by);
+    moves::move_down(&mut s[0..m], by);
+    moves::move_down(&mut s[d..e], by);
 }
 
 // The first n bits of the first two registers are flipped, and the others are clear.
@@ -146,7 +149,7 @@ fn load(s: &mut [u64], a: usize, b: usize, m: usize)
     ensures { λ _. ⌜ Laid b m (bitAt (register a m (now (s .entry)))) (now (s .entry)) (now (s .exit)) ⌝ }
 {
     let e = b + m;
-    column::copy_into(&mut s[a..e], b - a);
+    pair::copy_into(&mut s[a..e], b - a);
 }
 
 // Bit t of the register at b becomes that bit and bit t of the register at a.
@@ -155,7 +158,7 @@ fn and_with(s: &mut [u64], a: usize, b: usize, m: usize)
     ensures { λ _. ⌜ Laid b m (both _&&_ (register b m (now (s .entry))) (register a m (now (s .entry)))) (now (s .entry)) (now (s .exit)) ⌝ }
 {
     let e = b + m;
-    column::and_into(&mut s[a..e], b - a);
+    pair::and_into(&mut s[a..e], b - a);
 }
 
 // Bit t of the register at b becomes that bit or bit t of the register at a.
@@ -164,7 +167,7 @@ fn or_with(s: &mut [u64], a: usize, b: usize, m: usize)
     ensures { λ _. ⌜ Laid b m (both _||_ (register b m (now (s .entry))) (register a m (now (s .entry)))) (now (s .entry)) (now (s .exit)) ⌝ }
 {
     let e = b + m;
-    column::or_into(&mut s[a..e], b - a);
+    pair::or_into(&mut s[a..e], b - a);
 }
 
 fn put_signal(s: &mut [u64], b: usize, m: usize, older: &[u32], newer: &[u32], i: u8)
@@ -172,7 +175,7 @@ fn put_signal(s: &mut [u64], b: usize, m: usize, older: &[u32], newer: &[u32], i
     ensures { λ _. ⌜ Step b m (signalColumn i (now (older .entry) ++ now (newer .entry))) (now (s .entry)) (now (s .exit)) ⌝ }
 {
     let e = b + m;
-    column::pack_signal(&mut s[b..e], older, newer, i as usize);
+    signal::pack_signal(&mut s[b..e], older, newer, i as usize);
 }
 
 fn put_fill(s: &mut [u64], b: usize, m: usize, n: usize)

@@ -1,7 +1,7 @@
 -- `verdict::or_with` meets its contract. Assumes nothing.
 use mathlib.Core.Bool.{_||_}
 use borrow.Author.Needs.{needs}
-use Rattle.column.specs.Column.{both}
+use Rattle.pair.specs.Pair.{both}
 use Rattle.verdict.proofs.Steps.{lent}
 use Rattle.verdict.proofs.or_with.Statement.{statement}
 use Rattle.verdict.proofs.or_with.Tie as tie

@@ -1,6 +1,6 @@
 -- `verdict::two_down` meets its contract. Assumes nothing.
 use borrow.Author.Needs.{needs}
-use Rattle.column.specs.Column.{moved}
+use Rattle.moves.specs.Moves.{moved}
 use Rattle.verdict.proofs.Threes.{pair-parts}
 use Rattle.verdict.proofs.two_down.Statement.{statement}
 use Rattle.verdict.proofs.two_down.Tie as tie

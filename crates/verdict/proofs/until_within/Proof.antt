@@ -8,7 +8,9 @@ use lib.ListN.{length}
 use Rattle.lists.specs.Bits.{bitAt}
 use Rattle.mltl.specs.Mltl.{until}
 use Rattle.column.proofs.Parts.{part-op}
-use Rattle.column.specs.Column.{met, register, room}
+use Rattle.column.specs.Column.{register}
+use Rattle.pair.specs.Pair.{room}
+use Rattle.moves.specs.Moves.{met}
 use Rattle.verdict.proofs.Untils.{Two, all, until-start, until-twice}
 use Rattle.verdict.proofs.until_within.Statement.{statement}
 use Rattle.verdict.proofs.until_within.Tie as tie

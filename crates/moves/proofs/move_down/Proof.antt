@@ -1,0 +1,16 @@
+-- `moves::move_down` meets its contract. Assumes nothing.
+use native.Mathlib.Omega.{arith}
+use borrow.Author.Needs.{needs}
+use Rattle.moves.proofs.Sweeps.{vanishes, moved-past}
+use Rattle.moves.proofs.move_down.Statement.{statement}
+use Rattle.moves.proofs.move_down.Tie as tie
+
+pub move-down-spec : {M : Type 1} → statement M
+move-down-spec =
+    tie.close
+    (tie.spec
+    (search needs) (search needs) (search needs) (search needs) (search needs) (search needs) (search needs) (search needs)
+    (λ c.
+    let w = c .before .before .before .before .before .before in
+    let a = w .before .before .before .before .args in
+    vanishes (w .move-words .ensures) (omega arith) (c .before .before .clear .ensures) (λ t h. moved-past (a .by) (a .s .now) t (omega arith))))
