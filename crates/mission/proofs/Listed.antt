@@ -23,11 +23,11 @@ use Rattle.mission.specs.Mission.{Beginning}
 use Rattle.mission.proofs.Stream.{none-yet, after-feed, after-close}
 
 -- ---- one call more
-states-snoc : (cs : List Call) (c : Call) → statesFed (cs ++ (c ∷ [])) ≡ statesFed cs ++ statesOf c
+pub states-snoc : (cs : List Call) (c : Call) → statesFed (cs ++ (c ∷ [])) ≡ statesFed cs ++ statesOf c
 states-snoc [] c = append-nil (statesOf c)
 states-snoc (d ∷ cs) c = rw (states-snoc cs c) (sym (append-assoc (statesOf d) (statesFed cs) (statesOf c)))
 
-verdicts-snoc : (cs : List Call) (c : Call) → verdictsGiven (cs ++ (c ∷ [])) ≡ verdictsGiven cs ++ verdictsOf c
+pub verdicts-snoc : (cs : List Call) (c : Call) → verdictsGiven (cs ++ (c ∷ [])) ≡ verdictsGiven cs ++ verdictsOf c
 verdicts-snoc [] c = append-nil (verdictsOf c)
 verdicts-snoc (d ∷ cs) c = rw (verdicts-snoc cs c) (sym (append-assoc (verdictsOf d) (verdictsGiven cs) (verdictsOf c)))
 

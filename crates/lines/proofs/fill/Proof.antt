@@ -1,0 +1,122 @@
+-- `lines::fill` meets its contract. The invariant: some lines were read, and the rest is still to be read. Assumes nothing.
+use Prim.Native.Nat.{_-_}
+use native.Mathlib.Omega.{arith}
+use mathlib.Core.Path.{sym, _∙_}
+use borrow.Author.Needs.{needs}
+use borrow.Author.Tests.{not-true, not-false}
+use lib.ListN.{length}
+use Rattle.lines.proofs.Laws.{Reached, reached-none, reached-full, reached-all, more-read, part-read, bad-read, further, value-fits}
+use Rattle.lines.proofs.fill.Statement.{statement}
+use Rattle.lines.proofs.fill.Tie as tie
+use Rattle.lines.proofs.fill.Reads as reads
+use Rattle.lines.proofs.fill.Lts as lts
+use Rattle.lines.proofs.is_state.Reads as is-state-reads
+use Rattle.lines.proofs.scan_line.Reads as scan-line-reads
+use Rattle.lines.proofs.start.Reads as start-reads
+
+abbrev Inv-loop : tie.InvT-loop
+Inv-loop part at block₀ count i₀ l₀ k₀ block i l k = Reached part block₀ at count l₀ block i l k
+
+abbrev μ-loop : tie.MeasureT-loop
+μ-loop part at block₀ count i₀ l₀ k₀ block i l k = length part - i
+
+loop-holds : tie.Need-loop-holds Inv-loop μ-loop
+loop-holds c = reached-none _ _ _ _ _
+
+same-length : tie.Need-same-length Inv-loop μ-loop
+same-length c = search needs
+
+returns : tie.Need-returns Inv-loop μ-loop
+returns c = reached-full (c .before .before .loop .inv) (c .if1 .taken)
+
+scan-line-requires : tie.Need-scan-line-requires Inv-loop μ-loop
+scan-line-requires c κs = search needs
+
+same-length-2 : tie.Need-same-length-2 Inv-loop μ-loop
+same-length-2 c = search needs
+
+returns-2 : tie.Need-returns-2 Inv-loop μ-loop
+returns-2 c =
+    let q = c .before .before .before in
+    part-read (q .before .before .before .loop .inv) (q .scan-line .result) (q .scan-line .ensures) (q .before .if1 .left) (not-true _ (c .if2 .taken))
+
+is-state-requires : tie.Need-is-state-requires Inv-loop μ-loop
+is-state-requires c κs = search needs
+
+start-requires : tie.Need-start-requires Inv-loop μ-loop
+start-requires c κs = search needs
+
+same-length-3 : tie.Need-same-length-3 Inv-loop μ-loop
+same-length-3 c = search needs
+
+returns-3 : tie.Need-returns-3 Inv-loop μ-loop
+returns-3 c =
+    let n = c .before .before in
+    let q = n .before .before .before .before in
+    rw (c .start .ensures)
+    (bad-read (q .before .before .before .loop .inv) (q .scan-line .result) (q .scan-line .ensures) (q .before .if1 .left) (not-false _ (n .before .if2 .left))
+    (sym (n .is-state .ensures) ∙ not-true _ (c .before .if3 .taken)))
+
+cast-block : tie.Need-cast-block Inv-loop μ-loop
+cast-block c =
+    let n = c .before .before in
+    search (needs, value-fits (n .before .before .before .before .scan-line .result .line) (sym (n .is-state .ensures) ∙ not-false _ (c .before .if3 .left)))
+
+mul-block : tie.Need-mul-block Inv-loop μ-loop
+mul-block c = search needs
+
+slice-write-block : tie.Need-slice-write-block Inv-loop μ-loop
+slice-write-block c = search needs
+
+add-k : tie.Need-add-k Inv-loop μ-loop
+add-k c = search needs
+
+start-requires-2 : tie.Need-start-requires-2 Inv-loop μ-loop
+start-requires-2 c κs = search needs
+
+loop-less : tie.Need-loop-less Inv-loop μ-loop
+loop-less c =
+    let n = c .before .before .before in
+    let q = n .before .before .before .before in
+    further (q .before .before .before .loop .inv) (q .scan-line .result) (q .scan-line .ensures) (q .before .if1 .left) (not-false _ (n .before .if2 .left))
+    (q .before .before .loop-test .taken)
+
+loop-again : tie.Need-loop-again Inv-loop μ-loop
+loop-again c =
+    let n = c .before .before .before in
+    let q = n .before .before .before .before in
+    rw (c .start2 .ensures)
+    (more-read (q .before .before .before .loop .inv) (q .scan-line .result) (q .scan-line .ensures) (q .before .if1 .left) (not-false _ (n .before .if2 .left))
+    (sym (n .is-state .ensures) ∙ not-false _ (c .before .before .if3 .left)))
+
+same-length-4 : tie.Need-same-length-4 Inv-loop μ-loop
+same-length-4 c = search needs
+
+returns-4 : tie.Need-returns-4 Inv-loop μ-loop
+returns-4 c = reached-all (c .before .loop .inv) (c .loop-test .left)
+
+pub fill-spec : {M : Type 1} → statement M
+fill-spec =
+    tie.close
+    (tie.spec
+    Inv-loop
+    μ-loop
+    loop-holds
+    same-length
+    returns
+    scan-line-requires
+    same-length-2
+    returns-2
+    is-state-requires
+    start-requires
+    same-length-3
+    returns-3
+    cast-block
+    mul-block
+    slice-write-block
+    add-k
+    start-requires-2
+    loop-less
+    loop-again
+    same-length-4
+    returns-4)

@@ -1,0 +1,67 @@
+-- `lines::scan_line` meets its contract. The invariant: what is scanned from here is what was to be scanned from the start. Assumes nothing.
+use mathlib.Core.Path.{_≡_, refl, sym, _∙_}
+use Prim.Native.Nat.{_-_}
+use borrow.Author.Needs.{needs}
+use lib.ListN.{length, drop}
+use Rattle.lines.specs.Lines.{scanned}
+use Rattle.lines.proofs.Laws.{scan-none, scan-end, scan-more}
+use Rattle.lines.proofs.scan_line.Statement.{statement}
+use Rattle.lines.proofs.scan_line.Tie as tie
+
+abbrev Inv-loop : tie.InvT-loop
+Inv-loop s at i₀ l₀ i l = scanned (drop i s) i l ≡ scanned (drop i₀ s) i₀ l₀
+
+abbrev μ-loop : tie.MeasureT-loop
+μ-loop s at i₀ l₀ i l = length s - i
+
+loop-holds : tie.Need-loop-holds Inv-loop μ-loop
+loop-holds c = refl
+
+shared-slice-read-b : tie.Need-shared-slice-read-b Inv-loop μ-loop
+shared-slice-read-b c = search needs
+
+add-t11 : tie.Need-add-t11 Inv-loop μ-loop
+add-t11 c = search needs
+
+returns : tie.Need-returns Inv-loop μ-loop
+returns c =
+    let p = c .before .before .before .loop in
+    let a = c .before .before .before .before .before .args in
+    sym (scan-end (a .part .now) (p .i) (p .l) (c .before .before .loop-test .taken) (c .if1 .taken)) ∙ p .inv
+
+with-byte-requires : tie.Need-with-byte-requires Inv-loop μ-loop
+with-byte-requires c κs = tt
+
+add-i : tie.Need-add-i Inv-loop μ-loop
+add-i c = search needs
+
+loop-less : tie.Need-loop-less Inv-loop μ-loop
+loop-less c = search needs
+
+loop-again : tie.Need-loop-again Inv-loop μ-loop
+loop-again c =
+    let p = c .before .before .before .before .loop in
+    let s = c .before .before .before .before .before .before .args .part .now in
+    rw (c .with-byte .ensures) (sym (scan-more s (p .i) (p .l) (c .before .before .before .loop-test .taken) (c .before .if1 .left)) ∙ p .inv)
+
+returns-2 : tie.Need-returns-2 Inv-loop μ-loop
+returns-2 c =
+    let p = c .before .loop in
+    let a = c .before .before .before .args in
+    sym (scan-none (a .part .now) (p .i) (p .l) (c .loop-test .left)) ∙ p .inv
+
+pub scan-line-spec : {M : Type 1} → statement M
+scan-line-spec =
+    tie.close
+    (tie.spec
+    Inv-loop
+    μ-loop
+    loop-holds
+    shared-slice-read-b
+    add-t11
+    returns
+    with-byte-requires
+    add-i
+    loop-less
+    loop-again
+    returns-2)

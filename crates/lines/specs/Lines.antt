@@ -1,0 +1,114 @@
+-- A text as lines, each a state in decimal (document 01, Program and C entry).
+use mathlib.Core.Bool.{Bool, true, false, _&&_}
+use mathlib.Core.List.{List, [], _∷_, _++_, map}
+use Prim.Native.Nat.{ℕ, zero, suc, _+_, _-_, _*_, _≤_, _<_}
+use lib.Dec.{leb, ltb, eqb}
+use lib.ListN.{length}
+use Rattle.lists.specs.Choice.{pick}
+use Rattle.lines.specs.declared.Line.{Line}
+use Rattle.lines.specs.declared.Scan.{Scan}
+use Rattle.lines.specs.declared.Filled.{Filled}
+
+-- ---- what the lines of a text say
+pub data Reading : Type 0 where
+  state : ℕ → Reading
+  bad : Reading
+
+-- bytes after the last line end: a line, if there are any
+abbrev pub lastLine : List ℕ → List (List ℕ)
+lastLine [] = []
+lastLine (b ∷ bs) = (b ∷ bs) ∷ []
+
+-- the bytes of each line: every line ends in byte 10, which the last may lack; `line` are the bytes of the first so far
+abbrev pub linesFrom : List ℕ → List ℕ → List (List ℕ)
+linesFrom line [] = lastLine line
+linesFrom line (b ∷ bs) = pick (eqb b 10) (line ∷ linesFrom [] bs) (linesFrom (line ++ (b ∷ [])) bs)
+
+abbrev pub allDigits : List ℕ → Bool
+allDigits [] = true
+allDigits (b ∷ bs) = pick (leb 48 b) (pick (leb b 57) (allDigits bs) false) false
+
+-- the value of decimal digits, after the value v of those before
+abbrev pub valueFrom : ℕ → List ℕ → ℕ
+valueFrom v [] = v
+valueFrom v (b ∷ bs) = valueFrom (v * 10 + (b - 48)) bs
+
+-- a line is a state if it is 1 to 10 digits of a value in 0..4294967295, with n digits of value v before these bytes
+unfoldable pub lineAfter : ℕ → ℕ → List ℕ → Reading
+lineAfter n v bs =
+    pick (leb 1 (n + length bs))
+    (pick (leb (n + length bs) 10) (pick (allDigits bs) (pick (leb (valueFrom v bs) 4294967295) (state (valueFrom v bs)) bad) bad) bad)
+    bad
+
+abbrev pub lineOf : List ℕ → Reading
+lineOf = lineAfter 0 0
+
+abbrev pub readings : List ℕ → List Reading
+readings text = map lineOf (linesFrom [] text)
+
+-- ---- the same, byte by byte
+-- a line with no byte yet
+abbrev pub empty : Line
+empty = record { digits = 0; value = 0 }
+
+-- a line that is bad, whatever follows
+abbrev pub badLine : Line
+badLine = record { digits = 11; value = 0 }
+
+-- a line with one byte more: a digit, the tenth at most, after a value that is a state; else it is bad
+unfoldable pub withByte : Line → ℕ → Line
+withByte l b =
+    pick (ltb (l .digits) 10)
+    (pick (leb 48 b)
+    (pick (leb b 57)
+    (pick (leb (l .value) 4294967295) (record { digits = l .digits + 1; value = l .value * 10 + (b - 48) }) badLine)
+    badLine)
+    badLine)
+    badLine
+
+-- a line that ends is a state, if it has 1 to 10 digits whose value is one
+abbrev pub isState : Line → Bool
+isState l = leb 1 (l .digits) && leb (l .digits) 10 && leb (l .value) 4294967295
+
+abbrev pub readingOf : Line → Reading
+readingOf l = pick (isState l) (state (l .value)) bad
+
+-- what the lines of a text say, after a line so far
+unfoldable pub readingsFrom : Line → List ℕ → List Reading
+readingsFrom l [] = pick (eqb (l .digits) 0) [] (readingOf l ∷ [])
+readingsFrom l (b ∷ bs) = pick (eqb b 10) (readingOf l ∷ readingsFrom empty bs) (readingsFrom (withByte l b) bs)
+
+-- ---- a part of a text
+-- bytes that start at a place, after a line so far: up to their first line end
+unfoldable pub scanned : List ℕ → ℕ → Line → Scan
+scanned [] at l = record { at = at; line = l; ended = false }
+scanned (b ∷ bs) at l = pick (eqb b 10) (record { at = at + 1; line = l; ended = true }) (scanned bs (at + 1) (withByte l b))
+
+-- the states of the lines that end in these bytes, `room` at most, up to the first bad line; the line so far then, how many bytes
+-- were read, and whether the last line was bad
+pub record Filling : Type 0 where
+  pub states : List ℕ
+  pub line : Line
+  pub used : ℕ
+  pub isBad : Bool
+
+abbrev pub stopped : Line → Filling
+stopped l = record { states = []; line = l; used = 0; isBad = false }
+
+-- after states and bytes that were read before
+abbrev pub after : List ℕ → ℕ → Filling → Filling
+after xs n f = record { states = xs ++ f .states; line = f .line; used = n + f .used; isBad = f .isBad }
+
+-- a line ended with byte number n: what it says, and what would follow a state
+abbrev pub lineEnded : Reading → ℕ → Filling → Filling
+lineEnded (state v) n f = after (v ∷ []) n f
+lineEnded bad n f = record { states = []; line = empty; used = n; isBad = true }
+
+unfoldable pub filling : ℕ → Line → List ℕ → Filling
+filling room l [] = stopped l
+filling zero l (b ∷ bs) = stopped l
+filling (suc room) l (b ∷ bs) = pick (eqb b 10) (lineEnded (readingOf l) 1 (filling room empty bs)) (after [] 1 (filling (suc room) (withByte l b) bs))
+
+-- the answer of `fill`, which began at place `at` of its part and place `count` of its block
+abbrev pub filledFrom : ℕ → ℕ → Filling → Filled
+filledFrom at count f = record { at = at + f .used; line = f .line; count = count + length (f .states); bad = f .isBad }

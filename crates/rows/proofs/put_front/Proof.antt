@@ -1,0 +1,58 @@
+-- `rows::put_front` meets its contract. Assumes nothing.
+use native.Mathlib.Omega.{arith}
+use mathlib.Core.Path.{_≡_}
+use borrow.Author.Tests.{lt-ltb, le-ltb}
+use Rattle.rows.specs.Rows.{front}
+use Rattle.rows.proofs.Laws.{put-then, fronted-put}
+use borrow.Author.Needs.{needs}
+use Rattle.rows.proofs.put_front.Statement.{statement}
+use Rattle.rows.proofs.put_front.Tie as tie
+use Rattle.rows.proofs.put_front.Reads as reads
+use Rattle.rows.proofs.put_front.Lts as lts
+use Rattle.rows.proofs.put.Reads as put-reads
+use Rattle.rows.proofs.put_byte.Reads as put-byte-reads
+use Rattle.rows.proofs.put_number.Reads as put-number-reads
+
+put-requires : tie.Need-put-requires
+put-requires c κs = search needs
+
+put-byte-requires : tie.Need-put-byte-requires
+put-byte-requires c κs = search needs
+
+same-length : tie.Need-same-length
+same-length c = search needs
+
+returns : tie.Need-returns
+returns c =
+    let b = c .before .before .before in
+    let a = b .before .before .before .before in
+    let s = a .before .before .before .before in
+    fronted-put (s .args .name .now) (s .args .tick) (s .args .front .now) _ (b .put-byte .last .0) (b .put-byte .result) (s .pre .0) (omega (arith, a .put .ensures .place, b .put-byte .ensures .place))
+    (rw (lt-ltb (s .args .tick) 10 (c .if1 .taken))) (put-then (a .put .ensures) (b .put-byte .ensures))
+
+put-number-requires : tie.Need-put-number-requires
+put-number-requires c κs = search needs
+
+same-length-2 : tie.Need-same-length-2
+same-length-2 c = search needs
+
+returns-2 : tie.Need-returns-2
+returns-2 c =
+    let n = c .before .before in
+    let b = n .before .before .before .before .before in
+    let a = b .before .before .before .before in
+    let s = a .before .before .before .before in
+    fronted-put (s .args .name .now) (s .args .tick) (s .args .front .now) _ (n .put-number .last .0) (n .put-number .result) (s .pre .0) (omega (arith, a .put .ensures .place, b .put-byte .ensures .place, n .put-number .ensures .1))
+    (rw (le-ltb (s .args .tick) 10 (n .before .before .if1 .left))) (put-then (a .put .ensures) (put-then (b .put-byte .ensures) (n .put-number .ensures .0)))
+
+pub put-front-spec : {M : Type 1} → statement M
+put-front-spec =
+    tie.close
+    (tie.spec
+    put-requires
+    put-byte-requires
+    same-length
+    returns
+    put-number-requires
+    same-length-2
+    returns-2)

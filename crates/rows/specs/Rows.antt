@@ -1,0 +1,68 @@
+-- The lines that the program writes (document 01, Program and C entry), as lists of bytes.
+use mathlib.Core.Path.{_≡_}
+use mathlib.Core.Bool.{Bool, _||_}
+use mathlib.Core.List.{List, [], _∷_, _++_}
+use Prim.Native.Nat.{ℕ, zero, suc, _+_, _/_, _%_, _^_, _≤_}
+use lib.Dec.{ltb}
+use lib.ListN.{length, take}
+use lib.Seq.{sets}
+use Rattle.io.specs.Digits.{digits}
+use Rattle.lists.specs.Choice.{pick}
+use Rattle.lists.specs.Sequence.{ticks}
+use Rattle.lists.specs.Bits.{bitAt, digit}
+
+-- ---- a number below 2^64 in decimal, with no zero in front
+-- how many digits n has, at least k, by a search of f steps
+unfoldable pub placesFrom : ℕ → ℕ → ℕ → ℕ
+placesFrom zero k n = k
+placesFrom (suc f) k n = pick (ltb n (10 ^ k)) k (placesFrom f (k + 1) n)
+
+unfoldable pub decimal : ℕ → List ℕ
+decimal n = digits 10 (placesFrom 19 1 n) n
+
+-- ---- a row: name, tick and verdict, 1 or 0, with single spaces between; every line ends in byte 10
+unfoldable pub row : List ℕ → ℕ → ℕ → List ℕ
+row name tick verdict = name ++ (32 ∷ decimal tick ++ (32 ∷ (48 + verdict) ∷ 10 ∷ []))
+
+-- the rows of verdicts, from a tick on
+unfoldable pub rowsFrom : List ℕ → ℕ → List Bool → List ℕ
+rowsFrom name tick [] = []
+rowsFrom name tick (v ∷ vs) = row name tick (digit v) ++ rowsFrom name (tick + 1) vs
+
+abbrev pub rowsOf : ℕ → ℕ → List Bool → List ℕ
+rowsOf name = rowsFrom (decimal name)
+
+-- the rows of the first `count` verdicts of some words; none where they would not fit
+abbrev pub fitting : ℕ → ℕ → List ℕ → ℕ → List ℕ
+fitting name tick words count = pick (ltb 4096 count || ltb 9223372036854775807 tick) [] (rowsOf name tick (ticks (bitAt words) count))
+
+-- ---- `book NUMBER RECORD`, `bad line N`, `feed NUMBER`
+abbrev pub bookLine : ℕ → ℕ → List ℕ
+bookLine number place = 98 ∷ 111 ∷ 111 ∷ 107 ∷ 32 ∷ (decimal number ++ (32 ∷ (decimal place ++ (10 ∷ []))))
+
+abbrev pub badLine : ℕ → List ℕ
+badLine n = 98 ∷ 97 ∷ 100 ∷ 32 ∷ 108 ∷ 105 ∷ 110 ∷ 101 ∷ 32 ∷ (decimal n ++ (10 ∷ []))
+
+abbrev pub feedLine : ℕ → List ℕ
+feedLine number = 102 ∷ 101 ∷ 101 ∷ 100 ∷ 32 ∷ (decimal number ++ (10 ∷ []))
+
+-- ---- a row in two parts
+-- the name, a space, and all digits of the tick but the last
+abbrev pub front : List ℕ → ℕ → List ℕ
+front name tick = name ++ (32 ∷ pick (ltb tick 10) [] (decimal (tick / 10)))
+
+-- the last digit of the tick, the verdict, and the line's end
+abbrev pub ended : List ℕ → ℕ → ℕ → List ℕ
+ended xs tick verdict = xs ++ ((48 + tick % 10) ∷ 32 ∷ (48 + verdict) ∷ 10 ∷ [])
+
+-- the first k bytes of a buffer are the front of the row of a tick
+pub record Fronted (name : List ℕ) (tick : ℕ) (buffer : List ℕ) (k : ℕ) : Type 0 where
+  pub bytes : take k buffer ≡ front name tick
+  pub short : k ≤ 28
+  pub within : 32 ≤ length buffer
+
+-- ---- xs was put into old at a place: what the buffer holds now, and the place after it
+pub record Put (old : List ℕ) (at : ℕ) (xs : List ℕ) (new : List ℕ) (next : ℕ) : Type 0 where
+  pub list : new ≡ sets old at xs
+  pub place : next ≡ at + length xs
+  pub room : at + length xs ≤ length old

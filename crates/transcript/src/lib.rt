@@ -1,0 +1,1 @@
+// No code: what the program prints, as a theorem.

@@ -1,0 +1,284 @@
+-- The steps of the program, over the effects of the calls that they make. Assumes nothing.
+use Prim.Native.Nat.{ℕ, _+_, _-_, _≤_, _<_, min}
+use native.Mathlib.Omega.{arith}
+use mathlib.Core.Path.{_≡_, refl, sym, ap, subst, _∙_}
+use mathlib.Core.Bool.{Bool, true, false, not, _||_, false≢true, true≢false}
+use mathlib.Core.List.{List, [], _∷_, _++_, append-nil}
+use borrow.Author.Tests.{le-ltb, eq-eqb, ltb-false}
+use lib.Dec.{eqb, ltb}
+use lib.ListN.{length, take, drop, length-append, length-drop}
+use lib.Seq.{sets, sets-eq, length-take-le, take-append-seam, length-sets}
+use Rattle.lists.specs.Choice.{pick}
+use Rattle.lists.specs.Sequence.{ticks}
+use Rattle.lists.specs.Bits.{bitAt}
+use Rattle.session.specs.declared.Session.{Session}
+use Rattle.session.specs.declared.Answer.{Answer}
+use Rattle.session.specs.Session.{Effect, fed, feeding, closing, delayOf, unfit}
+use Rattle.session.proofs.Effects.{feed-accepted, close-accepted as close-is}
+use Rattle.mission.specs.Mission.{Start}
+use Rattle.lines.specs.declared.Line.{Line}
+use Rattle.lines.specs.declared.Filled.{Filled}
+use Rattle.lines.specs.Lines.{Filling, filling, filledFrom}
+use Rattle.lines.proofs.Laws.{fill-stops}
+use Rattle.rows.specs.Rows.{Put, rowsOf, fitting, badLine, feedLine}
+use Rattle.rows.proofs.Laws.{put-bytes}
+use Rattle.transcript.specs.Printed.{ruleName, printed, Running, Stopped}
+use Rattle.transcript.proofs.Steps.{few, delay-short, running-lines, stopped-bad, running-fed, stopped-fed, close-accepted, printed-all}
+use Rattle.watch.specs.declared.Progress.{Progress}
+use Rattle.watch.specs.declared.Outcome.{Outcome}
+use Rattle.watch.specs.Steps.{Runs, Follows, Ready, Fed, Steps, Closes}
+
+-- rows that fit, at the start of the text
+fitting-is : (name tick : ℕ) (words : List ℕ) (count : ℕ) → count ≤ 4096 → tick ≤ 4294967295 → fitting name tick words count ≡ rowsOf name tick (ticks (bitAt words) count)
+fitting-is name tick words count h k = rw (le-ltb 4096 count h, le-ltb 9223372036854775807 tick (omega arith))
+
+-- no row of a feed's refusals fits, so the last does not
+last-test : (p q r s : Bool) → _≡_ {A = ℕ} (pick p 25 (pick q 22 (pick r 23 (pick s 24 0)))) 0 → s ≡ false
+last-test true q r s e = absurd (omega arith)
+last-test false true r s e = absurd (omega arith)
+last-test false false true s e = absurd (omega arith)
+last-test false false false true e = absurd (omega arith)
+last-test false false false false e = refl
+
+-- ---- a feed
+module _ (p : Progress) (at : ℕ) (h block x o : List ℕ) (a : Answer) (h' x' o' text text' : List ℕ) (used : ℕ)
+    (is : record { answer = a; history = h'; scratch = x'; out = o' } ≡ feeding (p .session) (take (p .count) block) h x o)
+    (fits : p .count ≤ 1024) (ticked : p .tick ≤ p .session .seen) (size : length block ≡ 1024) (counted : p .session .seen ≤ 4294967295)
+    (hh : 4095 ≤ length h) (hx : 5280 ≤ length x) (ho : 16 ≤ length o) where
+  abbrev E : Effect
+  E = feeding (p .session) (take (p .count) block) h x o
+
+  waits : length (take (p .count) block) ≡ p .count
+  waits = length-take-le (p .count) block (omega (arith, size, fits))
+
+  pub fed-refused : (a .number ≡ 0 → ⊥) → Put text 0 (feedLine (a .number)) text' used
+      → Fed p at h block h' text' (record {
+        progress = record { session = a .session; name = p .name; line = p .line; count = p .count; tick = p .tick; going = false };
+        at = at;
+        used = used;
+      })
+  fed-refused n put = record {
+    place = refl;
+    ready = λ e. absurd (false≢true e);
+    right = λ m read shown runs. record {
+      onward = λ e. absurd (false≢true e);
+      ended = λ e. (let q : E .answer .number ≡ a .number = ap (λ (y : Effect). y .answer .number) (sym is) in
+          rw (put-bytes put, ← q) (stopped-fed m (runs .0) counted x o hh hx ho refl (λ z. n (sym q ∙ z))));
+    };
+  }
+
+  accepted : a .number ≡ 0 → record { answer = a; history = h'; scratch = x'; out = o' } ≡ fed (p .session) (take (p .count) block) h x o
+  accepted n = is ∙ feed-accepted (p .session) h x o (take (p .count) block) (ap (λ (y : Effect). y .answer .number) (sym is) ∙ n) .0
+
+  count-is : a .number ≡ 0
+      → a .count ≡ (p .session .seen + length (take (p .count) block) - delayOf (p .session)) - (p .session .seen - delayOf (p .session))
+  count-is n = ap (λ (z : Effect). z .answer .count) (accepted n)
+
+  seen-then : a .number ≡ 0 → a .session .seen ≡ p .session .seen + length (take (p .count) block)
+  seen-then n = ap (λ (z : Effect). z .answer .session .seen) (accepted n)
+
+  seen-fits : a .number ≡ 0 → p .session .seen + length (take (p .count) block) ≤ 4294967295
+  seen-fits n =
+      let q = feed-accepted (p .session) h x o (take (p .count) block) (ap (λ (y : Effect). y .answer .number) (sym is) ∙ n) .1 in
+      ltb-false 4294967295 _
+      (last-test (unfit (p .session)) (ltb 1024 (length (take (p .count) block))) (ltb (length h) 4095 || ltb (length x) 5280 || ltb (length o) 16)
+      (ltb 4294967295 (p .session .seen + length (take (p .count) block))) q)
+
+  -- ticks stay far below 64 bits
+  pub count-few : a .number ≡ 0 → p .tick + a .count ≤ 4294968319
+  count-few n = omega (arith, count-is n, waits, fits, ticked, counted)
+
+  pub fed-accepted : a .number ≡ 0 → Put text 0 (fitting (p .name) (p .tick) o' (a .count)) text' used
+      → Fed p at h block h' text' (record {
+        progress = record { session = a .session; name = p .name; line = p .line; count = 0; tick = p .tick + a .count; going = true };
+        at = at;
+        used = used;
+      })
+  fed-accepted n put =
+      let q : E .answer .number ≡ 0 = ap (λ (y : Effect). y .answer .number) (sym is) ∙ n in
+      let y = is ∙ feed-accepted (p .session) h x o (take (p .count) block) q .0 in
+      let k : a .count ≡ (p .session .seen + length (take (p .count) block) - delayOf (p .session)) - (p .session .seen - delayOf (p .session)) =
+      ap (λ (z : Effect). z .answer .count) y in
+      let s : a .session .seen ≡ p .session .seen + length (take (p .count) block) = ap (λ (z : Effect). z .answer .session .seen) y in
+      let w = put-bytes put ∙ fitting-is (p .name) (p .tick) o' (a .count) (omega (arith, k, waits, fits)) (omega (arith, ticked, counted)) in
+      record {
+        place = refl;
+        ready = λ e. (refl, record { room = omega arith; ticks = omega (arith, k, s, ticked); counted = omega (arith, s, seen-fits n) });
+        right = λ m read shown runs. record {
+          onward = λ e. (
+            rw (w, ← waits, runs .1)
+                (subst
+                (λ (z : Effect). Running m (not (eqb (length (take (p .count) block)) 1024)) read
+                (shown ++ rowsOf (ruleName m) (p .tick) (ticks (bitAt (z .out)) (z .answer .count)))
+                (z .answer .session) (z .history) (p .line) [] (p .tick + z .answer .count))
+                (sym is) (running-fed m (runs .0) counted x o hh hx ho refl q)),
+            runs .1,
+          );
+          ended = λ e. absurd (true≢false e);
+        };
+      }
+
+-- ---- the close
+module _ (p : Progress) (h x o : List ℕ) (a : Answer) (x' o' : List ℕ)
+    (is : record { answer = a; history = h; scratch = x'; out = o' } ≡ closing (p .session) h x o)
+    (counted : p .session .seen ≤ 4294967295) (hh : 4095 ≤ length h) (hx : 5280 ≤ length x) (ho : 64 ≤ length o) where
+  same-number : closing (p .session) h x o .answer .number ≡ a .number
+  same-number = ap (λ (y : Effect). y .answer .number) (sym is)
+
+  pub close-never : (text : List ℕ) → (a .number ≡ 0 → ⊥) → Closes p h text 0
+  close-never text n m last read shown block runs d z = absurd (n (sym same-number ∙ close-accepted m (runs .0) counted x o hh hx ho))
+
+  pub close-always : (text text' : List ℕ) (used : ℕ) → Put text 0 (fitting (p .name) (p .tick) o' (a .count)) text' used → Closes p h text' used
+  close-always text text' used put m last read shown block runs d z =
+      let q = close-accepted m (runs .0) counted x o hh hx ho in
+      let y = is ∙ close-is (p .session) h x o q .0 in
+      let k : a .count ≡ min (p .session .seen) (delayOf (p .session)) = ap (λ (e : Effect). e .answer .count) y in
+      let short : delayOf (p .session) ≤ 4095 = delay-short m (runs .0) in
+      let w = put-bytes put ∙ fitting-is (p .name) (p .tick) o' (a .count) (omega (arith, k, short)) (omega (arith, few m (runs .0), counted)) in
+      rw (w, runs .1)
+      (subst (λ (e : Effect). printed m read ≡ shown ++ rowsOf (ruleName m) (p .tick) (ticks (bitAt (e .out)) (e .answer .count))) (sym is)
+      (printed-all m (runs .0) counted x o hh hx ho d (rw z refl)))
+
+-- ---- a step
+module _ (p : Progress) (part : List ℕ) (at : ℕ) (h block : List ℕ) (ready : Ready p) (size : length block ≡ 1024) where
+  abbrev f : Filling
+  f = filling (length block - p .count) (p .line) (drop at part)
+
+  abbrev filledBlock : List ℕ
+  filledBlock = sets block (p .count) (f .states)
+
+  waiting : length (take (p .count) block) ≡ p .count
+  waiting = length-take-le (p .count) block (omega (arith, size, ready .room))
+
+  room : length block - p .count ≡ 1024 - length (take (p .count) block)
+  room = omega (arith, size, waiting)
+
+  fits-in : p .count + length (f .states) ≤ length block
+  fits-in = omega (arith, fill-stops (length block - p .count) (p .line) (drop at part) .fits, size, ready .room)
+
+  -- the block's first places then: the states that waited, and those of the lines
+  block-is : take (p .count + length (f .states)) filledBlock ≡ take (p .count) block ++ f .states
+  block-is =
+      let e : filledBlock ≡ take (p .count) block ++ f .states ++ drop (p .count + length (f .states)) block = sets-eq (f .states) block (p .count) fits-in in
+      let n : p .count + length (f .states) ≡ length (take (p .count) block ++ f .states) = omega (arith, length-append (take (p .count) block) (f .states), waiting) in
+      rw e (ap (λ (k : ℕ). take k (take (p .count) block ++ f .states ++ drop (p .count + length (f .states)) block)) n
+      ∙ take-append-seam (take (p .count) block ++ f .states) (drop (p .count + length (f .states)) block))
+
+  -- how far the part was read
+  further : at < length part → (at < at + f .used) × (at + f .used ≤ length part)
+  further lt =
+      let s = fill-stops (length block - p .count) (p .line) (drop at part) in
+      let l = length-drop at part in
+      (omega (arith, s .moves (omega (arith, size, ready .room)) (omega (arith, l))), omega (arith, s .within, l))
+
+  -- the program after the lines of the part, if none of them is bad
+  abbrev after : Progress
+  after = record { session = p .session; name = p .name; line = f .line; count = p .count + length (f .states); tick = p .tick; going = true }
+
+  lines-run : f .isBad ≡ false → (m : Start) (read shown : List ℕ) → Runs m false read shown p h block
+      → Runs m false (read ++ take (f .used) (drop at part)) shown after h filledBlock
+  lines-run e m read shown runs = (
+    rw block-is (subst (λ (n : ℕ). filling n (p .line) (drop at part) .isBad ≡ false
+        → Running m false (read ++ take (filling n (p .line) (drop at part) .used) (drop at part)) shown (p .session) h (filling n (p .line) (drop at part) .line)
+        (take (p .count) block ++ filling n (p .line) (drop at part) .states) (p .tick)) (sym room) (running-lines m (runs .0) (drop at part)) e),
+    runs .1,
+  )
+
+  took : at + f .used - at ≡ f .used
+  took = omega arith
+
+  step-bad : (text text' : List ℕ) (used : ℕ) → f .isBad ≡ true → Put text 0 (badLine (p .session .seen + (p .count + length (f .states)) + 1)) text' used
+      → Steps p part at h block h filledBlock text' (record {
+        progress = record { session = p .session; name = p .name; line = f .line; count = p .count + length (f .states); tick = p .tick; going = false };
+        at = at + f .used;
+        used = used;
+      })
+  step-bad text text' used e put = record {
+    further = further;
+    ready = λ g. absurd (false≢true g);
+    right = λ m read shown runs. record {
+      onward = λ g. absurd (false≢true g);
+      ended = λ g. rw (took, put-bytes put)
+          (subst (λ (k : ℕ). Stopped m (read ++ take (f .used) (drop at part)) (shown ++ badLine (p .session .seen + (k + length (f .states)) + 1))) waiting
+          (subst (λ (n : ℕ). filling n (p .line) (drop at part) .isBad ≡ true → Stopped m (read ++ take (filling n (p .line) (drop at part) .used) (drop at part))
+          (shown ++ badLine (p .session .seen + (length (take (p .count) block) + length (filling n (p .line) (drop at part) .states)) + 1)))
+          (sym room) (stopped-bad m (runs .0) (ready .counted) refl (drop at part)) e));
+    };
+  }
+
+  step-part : (text : List ℕ) → f .isBad ≡ false → p .count + length (f .states) < 1024
+      → Steps p part at h block h filledBlock text (record { progress = after; at = at + f .used; used = 0 })
+  step-part text e lt = record {
+    further = further;
+    ready = λ g. record { room = lt; ticks = ready .ticks; counted = ready .counted };
+    right = λ m read shown runs. record {
+      onward = λ g. rw (took, append-nil shown) (lines-run e m read shown runs);
+      ended = λ g. absurd (true≢false g);
+    };
+  }
+
+  step-fed : (h' text : List ℕ) (r : Outcome) → f .isBad ≡ false → 1024 ≤ p .count + length (f .states) → Fed after (at + f .used) h filledBlock h' text r
+      → Steps p part at h block h' filledBlock text r
+  step-fed h' text r e ge w =
+      let full : p .count + length (f .states) ≡ 1024 = omega (arith, fits-in, size) in
+      let t : r .at - at ≡ f .used = omega (arith, w .place) in
+      record {
+        further = rw (w .place) further;
+        ready = λ g. w .ready g .1;
+        right = λ m read shown runs.
+            rw t (subst (λ (b : Bool). Follows m (not b) (read ++ take (f .used) (drop at part)) (shown ++ take (r .used) text) (r .progress) h' filledBlock)
+            (eq-eqb (p .count + length (f .states)) 1024 full) (w .right m (read ++ take (f .used) (drop at part)) shown (lines-run e m read shown runs)));
+      }
+
+  -- the same for what the line reader answered, and for what the block holds then
+  module _ (q : Filled) (b' : List ℕ) (is : q ≡ filledFrom at (p .count) f) (bs : b' ≡ filledBlock) where
+    pub few-lines : q .count ≤ 1024
+    few-lines = rw is (omega (arith, fits-in, size))
+
+    pub block-size : length b' ≡ 1024
+    block-size = rw bs (length-sets block (p .count) (f .states)) ∙ size
+
+    pub bad-step : (text text' : List ℕ) (used : ℕ) → q .bad ≡ true → Put text 0 (badLine (p .session .seen + q .count + 1)) text' used
+        → Steps p part at h block h b' text' (record {
+          progress = record { session = p .session; name = p .name; line = q .line; count = q .count; tick = p .tick; going = false };
+          at = q .at;
+          used = used;
+        })
+    bad-step text text' used =
+        rw bs
+        (subst
+        (λ (y : Filled). y .bad ≡ true → Put text 0 (badLine (p .session .seen + y .count + 1)) text' used
+        → Steps p part at h block h filledBlock text' (record {
+          progress = record { session = p .session; name = p .name; line = y .line; count = y .count; tick = p .tick; going = false };
+          at = y .at;
+          used = used;
+        }))
+        (sym is) (step-bad text text' used))
+
+    pub part-step : (text : List ℕ) → q .bad ≡ false → q .count < 1024
+        → Steps p part at h block h b' text (record {
+          progress = record { session = p .session; name = p .name; line = q .line; count = q .count; tick = p .tick; going = true };
+          at = q .at;
+          used = 0;
+        })
+    part-step text =
+        rw bs
+        (subst
+        (λ (y : Filled). y .bad ≡ false → y .count < 1024
+        → Steps p part at h block h filledBlock text (record {
+          progress = record { session = p .session; name = p .name; line = y .line; count = y .count; tick = p .tick; going = true };
+          at = y .at;
+          used = 0;
+        }))
+        (sym is) (step-part text))
+
+    pub fed-step : (h' text : List ℕ) (r : Outcome) → q .bad ≡ false → 1024 ≤ q .count
+        → Fed (record { session = p .session; name = p .name; line = q .line; count = q .count; tick = p .tick; going = true }) (q .at) h b' h' text r
+        → Steps p part at h block h' b' text r
+    fed-step h' text r =
+        rw bs
+        (subst
+        (λ (y : Filled). y .bad ≡ false → 1024 ≤ y .count
+        → Fed (record { session = p .session; name = p .name; line = y .line; count = y .count; tick = p .tick; going = true }) (y .at) h filledBlock h' text r
+        → Steps p part at h block h' filledBlock text r)
+        (sym is) (step-fed h' text r))

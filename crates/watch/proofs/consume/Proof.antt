@@ -1,0 +1,83 @@
+-- `watch::consume` meets its contract. The invariant: the next step may begin. Assumes nothing.
+use Prim.Native.Nat.{_-_, _≤_}
+use native.Mathlib.Omega.{arith}
+use mathlib.Core.Path.{_≡_, sym, _∙_}
+use mathlib.Core.Bool.{false≢true}
+use borrow.Author.Tests.{not-false}
+use borrow.Author.Needs.{needs}
+use lib.ListN.{length}
+use Rattle.watch.specs.Steps.{Ready}
+use Rattle.watch.proofs.consume.Statement.{statement}
+use Rattle.watch.proofs.consume.Tie as tie
+use Rattle.watch.proofs.consume.Reads as reads
+use Rattle.watch.proofs.consume.Lts as lts
+use Rattle.watch.proofs.ended.Reads as ended-reads
+use Rattle.watch.proofs.step.Reads as step-reads
+use Rattle.watch.proofs.write.Reads as write-reads
+
+abbrev Inv-loop : tie.InvT-loop
+Inv-loop part block₀ history₀ scratch₀ out₀ text₀ p₀ at₀ block history scratch out text p at = Ready p × (length block ≡ 1024)
+
+abbrev μ-loop : tie.MeasureT-loop
+μ-loop part block₀ history₀ scratch₀ out₀ text₀ p₀ at₀ block history scratch out text p at = length part - at
+
+loop-holds : tie.Need-loop-holds Inv-loop μ-loop
+loop-holds c = search needs
+
+step-requires : tie.Need-step-requires Inv-loop μ-loop
+step-requires c κs = search needs
+
+write-requires : tie.Need-write-requires Inv-loop μ-loop
+write-requires c κs = search needs
+
+ended-requires : tie.Need-ended-requires Inv-loop μ-loop
+ended-requires c κs = search needs
+
+-- the block keeps its length
+kept : (c : tie.After-step Inv-loop μ-loop) → length (c .step .last .1 .1 .1 .0) ≡ 1024
+kept c = search (needs, c .before .before .before .before .before .before .before .loop .inv .1)
+
+same-length : tie.Need-same-length Inv-loop μ-loop
+same-length c = kept (c .before .before .before .before .before .before .before .before) ∙ sym (c .before .before .before .before .before .before .before .before .before .before .before .before .before .before .before .before .before .before .pre .1)
+
+returns : tie.Need-returns Inv-loop μ-loop
+returns c e = absurd (false≢true (sym (c .ended .ensures) ∙ e))
+
+same-length-2 : tie.Need-same-length-2 Inv-loop μ-loop
+same-length-2 c = kept (c .before .before .before .before .before .before .before .before .before) ∙ sym (c .before .before .before .before .before .before .before .before .before .before .before .before .before .before .before .before .before .before .before .pre .1)
+
+returns-2 : tie.Need-returns-2 Inv-loop μ-loop
+returns-2 c = c .before .before .before .before .before .before .before .before .before .step .ensures .ready
+
+loop-less : tie.Need-loop-less Inv-loop μ-loop
+loop-less c =
+    let w = c .before .before .before .before .before .before .before .before .before .step .ensures .further (c .before .before .before .before .before .before .before .before .before .before .before .before .before .before .before .loop-test .taken) in
+    omega (arith, w .0, w .1)
+
+loop-again : tie.Need-loop-again Inv-loop μ-loop
+loop-again c = (c .before .before .before .before .before .before .before .before .before .step .ensures .ready (not-false _ (c .if2 .left)), kept (c .before .before .before .before .before .before .before .before .before))
+
+same-length-3 : tie.Need-same-length-3 Inv-loop μ-loop
+same-length-3 c = c .before .loop .inv .1 ∙ sym (c .before .before .before .before .pre .1)
+
+returns-3 : tie.Need-returns-3 Inv-loop μ-loop
+returns-3 c = search needs
+
+pub consume-spec : {M : Type 1} → statement M
+consume-spec =
+    tie.close
+    (tie.spec
+    Inv-loop
+    μ-loop
+    loop-holds
+    step-requires
+    write-requires
+    ended-requires
+    same-length
+    returns
+    same-length-2
+    returns-2
+    loop-less
+    loop-again
+    same-length-3
+    returns-3)

@@ -1,0 +1,131 @@
+-- `watch::run` meets its contract. The invariant: the next part may be read. Assumes nothing.
+use Prim.Native.Nat.{ℕ, _-_, _≤_}
+use native.Mathlib.Omega.{arith}
+use mathlib.Core.Path.{_≡_, sym, _∙_}
+use mathlib.Core.Bool.{false≢true}
+use borrow.Author.Needs.{needs}
+use borrow.Author.Tests.{not-false}
+use lib.ListN.{length}
+use Rattle.watch.specs.Steps.{Ready}
+use Rattle.watch.proofs.run.Statement.{statement}
+use Rattle.watch.proofs.run.Tie as tie
+use Rattle.watch.proofs.run.Reads as reads
+use Rattle.watch.proofs.run.Lts as lts
+use Rattle.io.proofs.count.Reads as count-reads
+use Rattle.io.proofs.large_buffer.Reads as large-buffer-reads
+use Rattle.libc.proofs.read.Reads as read-reads
+use Rattle.os.proofs.fail.Reads as fail-reads
+use Rattle.watch.proofs.consume.Reads as consume-reads
+use Rattle.watch.proofs.ended.Reads as ended-reads
+
+abbrev Inv-loop : tie.InvT-loop
+Inv-loop block₀ history₀ scratch₀ out₀ text₀ buf₀ p₀ turns₀ t12 block history scratch out text buf p turns = Ready p × (length block ≡ 1024) × (65536 ≡ length buf)
+
+abbrev μ-loop : tie.MeasureT-loop
+μ-loop block₀ history₀ scratch₀ out₀ text₀ buf₀ p₀ turns₀ t12 block history scratch out text buf p turns = turns
+
+large-buffer-requires : tie.Need-large-buffer-requires Inv-loop μ-loop
+large-buffer-requires c κs = search needs
+
+loop-holds : tie.Need-loop-holds Inv-loop μ-loop
+loop-holds c = search needs
+
+slice-aggregate-read : tie.Need-slice-aggregate-read Inv-loop μ-loop
+slice-aggregate-read c = search needs
+
+read-requires : tie.Need-read-requires Inv-loop μ-loop
+read-requires c κs = search needs
+
+slice-aggregate-fail : tie.Need-slice-aggregate-fail Inv-loop μ-loop
+slice-aggregate-fail c = search needs
+
+fail-requires : tie.Need-fail-requires Inv-loop μ-loop
+fail-requires c κs = search needs
+
+ended-requires : tie.Need-ended-requires Inv-loop μ-loop
+ended-requires c κs = search needs
+
+-- the block and the buffer keep their lengths
+kept : (c : tie.After-consume Inv-loop μ-loop) → length (c .consume .last .1 .1 .0) ≡ 1024
+kept c = search (needs, c .before .before .before .before .before .before .before .before .before .before .before .before .before .before .before .loop .inv .1)
+
+kept-buffer : (c : tie.After-read Inv-loop μ-loop) → _≡_ {A = ℕ} 65536 (length (c .read .last .1 .0))
+kept-buffer c = search (needs, c .before .before .before .loop .inv .2)
+
+same-length : tie.Need-same-length Inv-loop μ-loop
+same-length c = c .before .before .before .before .before .before .before .before .loop .inv .1 ∙ sym (c .before .before .before .before .before .before .before .before .before .before .before .pre .1)
+
+returns : tie.Need-returns Inv-loop μ-loop
+returns c e = absurd (false≢true (sym (c .ended .ensures) ∙ e))
+
+same-length-2 : tie.Need-same-length-2 Inv-loop μ-loop
+same-length-2 c = c .before .before .before .before .before .before .loop .inv .1 ∙ sym (c .before .before .before .before .before .before .before .before .before .pre .1)
+
+returns-2 : tie.Need-returns-2 Inv-loop μ-loop
+returns-2 c e = c .before .before .before .before .before .before .loop .inv .0
+
+slice-aggregate-count : tie.Need-slice-aggregate-count Inv-loop μ-loop
+slice-aggregate-count c = search needs
+
+count-requires : tie.Need-count-requires Inv-loop μ-loop
+count-requires c κs = search needs
+
+array-share-prefix-buf : tie.Need-array-share-prefix-buf Inv-loop μ-loop
+array-share-prefix-buf c = search needs
+
+slice-aggregate-consume : tie.Need-slice-aggregate-consume Inv-loop μ-loop
+slice-aggregate-consume c = search needs
+
+consume-requires : tie.Need-consume-requires Inv-loop μ-loop
+consume-requires c κs = search needs
+
+same-length-3 : tie.Need-same-length-3 Inv-loop μ-loop
+same-length-3 c = kept (c .before .before .before .before) ∙ sym (c .before .before .before .before .before .before .before .before .before .before .before .before .before .before .before .before .before .before .before .before .before .before .pre .1)
+
+returns-3 : tie.Need-returns-3 Inv-loop μ-loop
+returns-3 c = c .before .before .before .before .consume .ensures
+
+sub-turns : tie.Need-sub-turns Inv-loop μ-loop
+sub-turns c = search (needs, c .before .before .before .before .before .before .before .before .before .before .before .before .before .before .before .before .before .before .loop-test .taken)
+
+loop-less : tie.Need-loop-less Inv-loop μ-loop
+loop-less c = (let t = c .before .before .before .before .before .before .before .before .before .before .before .before .before .before .before .before .before .before .loop-test .taken in omega (arith, t))
+
+loop-again : tie.Need-loop-again Inv-loop μ-loop
+loop-again c = (c .before .before .before .before .consume .ensures (not-false _ (c .if3 .left)), kept (c .before .before .before .before), kept-buffer (c .before .before .before .before .before .before .before .before .before .before .before .before .before .before .before .before))
+
+same-length-4 : tie.Need-same-length-4 Inv-loop μ-loop
+same-length-4 c = c .before .loop .inv .1 ∙ sym (c .before .before .before .before .pre .1)
+
+returns-4 : tie.Need-returns-4 Inv-loop μ-loop
+returns-4 c e = c .before .loop .inv .0
+
+pub run-spec : {M : Type 1} → statement M
+run-spec =
+    tie.close
+    (tie.spec
+    Inv-loop
+    μ-loop
+    large-buffer-requires
+    loop-holds
+    slice-aggregate-read
+    read-requires
+    slice-aggregate-fail
+    fail-requires
+    ended-requires
+    same-length
+    returns
+    same-length-2
+    returns-2
+    slice-aggregate-count
+    count-requires
+    array-share-prefix-buf
+    slice-aggregate-consume
+    consume-requires
+    same-length-3
+    returns-3
+    sub-turns
+    loop-less
+    loop-again
+    same-length-4
+    returns-4)

@@ -1,0 +1,62 @@
+-- `watch::watch` meets its contract. Assumes nothing.
+use mathlib.Core.Path.{_≡_}
+use lib.ListN.{length}
+use borrow.Author.Needs.{needs}
+use Rattle.watch.proofs.watch.Statement.{statement}
+use Rattle.watch.proofs.watch.Tie as tie
+use Rattle.watch.proofs.watch.Reads as reads
+use Rattle.watch.proofs.watch.Lts as lts
+use Rattle.lines.proofs.start.Reads as start-reads
+use Rattle.session.proofs.Session.open.Reads as open-reads
+use Rattle.simplify.proofs.simplify.Reads as simplify-reads
+use Rattle.watch.proofs.finish.Reads as finish-reads
+use Rattle.watch.proofs.run.Reads as run-reads
+
+simplify-requires : tie.Need-simplify-requires
+simplify-requires c κs = search needs
+
+array-copy-out-first : tie.Need-array-copy-out-first
+array-copy-out-first c = search needs
+
+open-requires : tie.Need-open-requires
+open-requires c κs = search needs
+
+start-requires : tie.Need-start-requires
+start-requires c κs = search needs
+
+slice-aggregate-run : tie.Need-slice-aggregate-run
+slice-aggregate-run c = search needs
+
+run-requires : tie.Need-run-requires
+run-requires c κs = search needs
+
+slice-aggregate-finish : tie.Need-slice-aggregate-finish
+slice-aggregate-finish c = search needs
+
+-- the block keeps its length
+kept : (c : tie.After-run) → length (c .run .last .1 .0) ≡ 1024
+kept c = search needs
+
+finish-requires : tie.Need-finish-requires
+finish-requires c κs = (c .before .before .before .before .before .before .before .run .ensures (c .before .before .before .before .before .if1 .taken), kept (c .before .before .before .before .before .before .before))
+
+returns : tie.Need-returns
+returns c = search needs
+
+returns-2 : tie.Need-returns-2
+returns-2 c = search needs
+
+pub watch-spec : {M : Type 1} → statement M
+watch-spec =
+    tie.close
+    (tie.spec
+    simplify-requires
+    array-copy-out-first
+    open-requires
+    start-requires
+    slice-aggregate-run
+    run-requires
+    slice-aggregate-finish
+    finish-requires
+    returns
+    returns-2)

@@ -1,0 +1,49 @@
+-- What the steps of the program do: they keep what is shown right for what was read (`Running` and `Stopped` of crate transcript).
+use Prim.Native.Nat.{ℕ, _-_, _≤_, _<_}
+use mathlib.Core.Path.{_≡_}
+use mathlib.Core.Bool.{Bool, true, false, not}
+use mathlib.Core.List.{List, _++_}
+use lib.Dec.{eqb}
+use lib.ListN.{length, take, drop}
+use Rattle.mission.specs.Mission.{Start}
+use Rattle.transcript.specs.Printed.{ruleName, printed, Running, Stopped}
+use Rattle.watch.specs.declared.Progress.{Progress}
+use Rattle.watch.specs.declared.Outcome.{Outcome}
+
+-- the program at work, with the states that wait in the block's first places
+abbrev pub Runs : Start → Bool → List ℕ → List ℕ → Progress → List ℕ → List ℕ → Type 0
+Runs m last read shown p h block = Running m last read shown (p .session) h (p .line) (take (p .count) block) (p .tick) × (p .name ≡ ruleName m)
+
+-- it goes on, or it has ended
+pub record Follows (m : Start) (last : Bool) (read shown : List ℕ) (p : Progress) (h block : List ℕ) : Type 0 where
+  pub onward : p .going ≡ true → Runs m last read shown p h block
+  pub ended : p .going ≡ false → Stopped m read shown
+
+-- where a step may begin
+pub record Ready (p : Progress) : Type 0 where
+  pub room : p .count < 1024
+  pub ticks : p .tick ≤ p .session .seen
+  pub counted : p .session .seen ≤ 4294967295
+
+-- a feed of the states that wait: h and block are what history and block held, h' and text what history and text hold then
+pub record Fed (p : Progress) (at : ℕ) (h block h' text : List ℕ) (r : Outcome) : Type 0 where
+  pub place : r .at ≡ at
+  pub ready : r .progress .going ≡ true → (r .progress .count ≡ 0) × Ready (r .progress)
+  pub right : (m : Start) (read shown : List ℕ) → Runs m false read shown p h block
+      → Follows m (not (eqb (p .count) 1024)) read (shown ++ take (r .used) text) (r .progress) h' block
+
+-- a step over bytes of a part, from a place on
+pub record Steps (p : Progress) (part : List ℕ) (at : ℕ) (h block h' block' text : List ℕ) (r : Outcome) : Type 0 where
+  pub further : at < length part → (at < r .at) × (r .at ≤ length part)
+  pub ready : r .progress .going ≡ true → Ready (r .progress)
+  pub right : (m : Start) (read shown : List ℕ) → Runs m false read shown p h block
+      → Follows m false (read ++ take (r .at - at) (drop at part)) (shown ++ take (r .used) text) (r .progress) h' block'
+
+-- the close, after which all is printed
+abbrev pub Closes : Progress → List ℕ → List ℕ → ℕ → Type 0
+Closes p h text used =
+    (m : Start) (last : Bool) (read shown block : List ℕ) → Runs m last read shown p h block → p .line .digits ≡ 0 → p .count ≡ 0
+    → printed m read ≡ shown ++ take used text
+
+abbrev pub ReadyIfGoing : Progress → Type 0
+ReadyIfGoing p = p .going ≡ true → Ready p

@@ -1,0 +1,357 @@
+// The program watch: reads the book in rules.bin and simplifies it, then a state from each line of standard input, and writes a row for each verdict
+// of the book's first rule.
+use libc::STDIN_FILENO;
+use libc::STDOUT_FILENO;
+use lines::Line;
+use session::Session;
+use table::Table;
+ghost use mathlib.Core.Path.{_≡_};
+ghost use mathlib.Core.Bool.{false};
+ghost use Prim.Native.Nat.{_≤_, _<_};
+ghost use lib.ListN.{length};
+ghost use Rattle.watch.specs.Steps.{Ready, ReadyIfGoing, Fed, Steps, Closes};
+
+// What is kept from one part of the input to the next: the session, the rule's name, the line so far, how many states wait in the block, the tick of
+// the next verdict, and whether the program goes on.
+struct Progress {
+    session: Session,
+    name: u16,
+    line: Line,
+    count: usize,
+    tick: u64,
+    going: bool,
+}
+
+// After a step: how far the part was read, and how many bytes of the text are to be written.
+struct Outcome {
+    progress: Progress,
+    at: usize,
+    used: usize,
+}
+
+// Lines of the part, from `at` on, up to a full block, which is fed, a bad line, or the part's end.
+fn step(
+    p: Progress,
+    part: &[u8],
+    at: usize,
+    block: &mut [u32],
+    history: &mut [u32; 4095],
+    scratch: &mut [u64; 5280],
+    out: &mut [u64; 64],
+    text: &mut [u8; 131072],
+) -> Outcome
+    requires { ⌜ Ready p × (length (now block) ≡ 1024) ⌝ }
+    ensures { λ r. ⌜ Steps p (now (part .entry)) at (now (history .entry)) (now (block .entry)) (now (history .exit)) (now (block .exit)) (now (text .exit)) r ⌝ }
+{
+    let line = p.line;
+    let f = lines::fill(part, at, line, block, p.count);
+    let rest = f.line;
+    let session = p.session;
+    if f.bad {
+        let used = rows::put_bad_line(text, session.seen as u64 + f.count as u64 + 1);
+        return Outcome {
+            progress: Progress {
+                session,
+                name: p.name,
+                line: rest,
+                count: f.count,
+                tick: p.tick,
+                going: false,
+            },
+            at: f.at,
+            used,
+        };
+    }
+    let next = Progress {
+        session,
+        name: p.name,
+        line: rest,
+        count: f.count,
+        tick: p.tick,
+        going: true,
+    };
+    if f.count < 1024 {
+        return Outcome {
+            progress: next,
+            at: f.at,
+            used: 0,
+        };
+    }
+    feed(next, f.at, block, history, scratch, out, text)
+}
+
+// Feeds the states that wait.
+fn feed(
+    p: Progress,
+    at: usize,
+    block: &[u32],
+    history: &mut [u32; 4095],
+    scratch: &mut [u64; 5280],
+    out: &mut [u64; 64],
+    text: &mut [u8; 131072],
+) -> Outcome
+    requires { ⌜ (p .count ≤ 1024) × (p .tick ≤ p .session .seen) × (p .session .seen ≤ 4294967295) × (length (now block) ≡ 1024) ⌝ }
+    ensures { λ r. ⌜ Fed p at (now (history .entry)) (now (block .entry)) (now (history .exit)) (now (text .exit)) r ⌝ }
+{
+    let session = p.session;
+    let line = p.line;
+    let a = session.feed(&block[..p.count], history, scratch, out);
+    let s = a.session;
+    if a.number != 0 {
+        let used = rows::put_feed(text, a.number);
+        return Outcome {
+            progress: Progress {
+                session: s,
+                name: p.name,
+                line,
+                count: p.count,
+                tick: p.tick,
+                going: false,
+            },
+            at,
+            used,
+        };
+    }
+    let used = rows::put_rows(text, p.name, p.tick, out, a.count);
+    Outcome {
+        progress: Progress {
+            session: s,
+            name: p.name,
+            line,
+            count: 0,
+            tick: p.tick + a.count as u64,
+            going: true,
+        },
+        at,
+        used,
+    }
+}
+
+// Closes the session.
+fn close(
+    p: Progress,
+    history: &[u32; 4095],
+    scratch: &mut [u64; 5280],
+    out: &mut [u64; 64],
+    text: &mut [u8; 131072],
+) -> usize
+    requires { ⌜ p .session .seen ≤ 4294967295 ⌝ }
+    ensures { λ r. ⌜ Closes p (now (history .entry)) (now (text .exit)) r ⌝ }
+{
+    let session = p.session;
+    let a = session.close(history, scratch, out);
+    if a.number != 0 {
+        return 0;
+    }
+    rows::put_rows(text, p.name, p.tick, out, a.count)
+}
+
+// Writes the first bytes of the text; answers whether all were taken.
+fn write(text: &[u8], used: usize) -> bool {
+    if used > text.len() {
+        return false;
+    }
+    if io::write_all(STDOUT_FILENO, &text[..used]) {
+        return true;
+    }
+    os::fail(b"standard output");
+    false
+}
+
+// The same, and the program ends.
+fn ended(p: Progress) -> Progress
+    ensures { λ r. ⌜ r .going ≡ false ⌝ }
+{
+    let session = p.session;
+    let line = p.line;
+    Progress {
+        session,
+        name: p.name,
+        line,
+        count: p.count,
+        tick: p.tick,
+        going: false,
+    }
+}
+
+// All lines of a part, step by step; after each step its text is written.
+fn consume(
+    first: Progress,
+    part: &[u8],
+    block: &mut [u32],
+    history: &mut [u32; 4095],
+    scratch: &mut [u64; 5280],
+    out: &mut [u64; 64],
+    text: &mut [u8; 131072],
+) -> Progress
+    requires { ⌜ Ready first × (length (now block) ≡ 1024) ⌝ }
+    ensures { λ r. ⌜ ReadyIfGoing r ⌝ }
+{
+    let mut p = first;
+    let mut at = 0;
+    while at < part.len() {
+        let o = step(p, part, at, block, history, scratch, out, text);
+        let next = o.progress;
+        if !write(text, o.used) {
+            return ended(next);
+        }
+        if !next.going {
+            return next;
+        }
+        p = next;
+        at = o.at;
+    }
+    p
+}
+
+// All of standard input. A proved loop has to end, so it counts its reads down from a number that no run uses up.
+fn run(
+    first: Progress,
+    block: &mut [u32],
+    history: &mut [u32; 4095],
+    scratch: &mut [u64; 5280],
+    out: &mut [u64; 64],
+    text: &mut [u8; 131072],
+) -> Progress
+    requires { ⌜ Ready first × (length (now block) ≡ 1024) ⌝ }
+    ensures { λ r. ⌜ ReadyIfGoing r ⌝ }
+{
+    let mut buf = io::large_buffer();
+    let mut p = first;
+    let mut turns = u64::MAX;
+    while turns > 0 {
+        let got = libc::read(STDIN_FILENO, &mut buf);
+        if got < 0 {
+            os::fail(b"standard input");
+            return ended(p);
+        }
+        if got == 0 {
+            return p;
+        }
+        let n = io::count(got, &buf);
+        p = consume(p, &buf[..n], block, history, scratch, out, text);
+        if !p.going {
+            return p;
+        }
+        turns -= 1;
+    }
+    p
+}
+
+// The line end that the last line may lack.
+fn last_line(
+    p: Progress,
+    block: &mut [u32],
+    history: &mut [u32; 4095],
+    scratch: &mut [u64; 5280],
+    out: &mut [u64; 64],
+    text: &mut [u8; 131072],
+) -> Progress
+    requires { ⌜ Ready p × (length (now block) ≡ 1024) ⌝ }
+    ensures { λ r. ⌜ ReadyIfGoing r ⌝ }
+{
+    let line = p.line;
+    if line.digits == 0 {
+        return p;
+    }
+    consume(p, b"\n", block, history, scratch, out, text)
+}
+
+// The end of the input: the last line, the last block, and the close.
+fn finish(
+    first: Progress,
+    block: &mut [u32],
+    history: &mut [u32; 4095],
+    scratch: &mut [u64; 5280],
+    out: &mut [u64; 64],
+    text: &mut [u8; 131072],
+)
+    requires { ⌜ Ready first × (length (now block) ≡ 1024) ⌝ }
+{
+    let p = last_line(first, block, history, scratch, out, text);
+    if !p.going {
+        return;
+    }
+    let o = feed(p, 0, block, history, scratch, out, text);
+    if !write(text, o.used) {
+        return;
+    }
+    let last = o.progress;
+    if !last.going {
+        return;
+    }
+    let used = close(last, history, scratch, out, text);
+    write(text, used);
+}
+
+// Watches the first rule of a table, after simplifying it.
+fn watch(t: Table, text: &mut [u8; 131072]) {
+    let simplified = simplify::simplify(t);
+    let table = simplified.table;
+    let rules = table.rules;
+    let first = rules[0];
+    let opening = Session::open(table, 0);
+    let session = opening.session;
+    let line = lines::start();
+    let p = Progress {
+        session,
+        name: first.name,
+        line,
+        count: 0,
+        tick: 0,
+        going: true,
+    };
+    let mut block = [0u32; 1024];
+    let mut history = [0u32; 4095];
+    let mut scratch = [0u64; 5280];
+    let mut out = [0u64; 64];
+    let last = run(p, &mut block, &mut history, &mut scratch, &mut out, text);
+    if last.going {
+        finish(last, &mut block, &mut history, &mut scratch, &mut out, text);
+    }
+}
+
+// The book in rules.bin, which counts as empty if it is missing: how many bytes it has, or 4,096 if it cannot be read. The buffer has a byte more than
+// the longest book, to show a longer one; one more read tells an end from a failure.
+fn load(book: &mut [u8]) -> usize {
+    let name = b"rules.bin";
+    let fd = os::open_read(name);
+    if fd < 0 {
+        if os::errno() == libc::ENOENT {
+            return 0;
+        }
+        os::fail(name);
+        return 4096;
+    }
+    let n = io::read_full(fd, book);
+    let mut byte = [0u8; 1];
+    let more = libc::read(fd, &mut byte);
+    if more < 0 {
+        os::fail(name);
+        return 4096;
+    }
+    libc::close(fd);
+    n
+}
+
+// A refused book.
+fn tell(number: u8, place: u8, text: &mut [u8; 131072]) {
+    let used = rows::put_book(text, number, place);
+    write(text, used);
+}
+
+fn main() {
+    let mut bytes = [0u8; 3061];
+    let n = load(&mut bytes);
+    if n > 3061 {
+        return;
+    }
+    let mut text = [0u8; 131072];
+    let reading = book::read(&bytes[..n]);
+    if reading.number != 0 {
+        tell(reading.number, reading.record, &mut text);
+        return;
+    }
+    let table = reading.table;
+    watch(table, &mut text);
+}
