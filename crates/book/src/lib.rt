@@ -8,9 +8,8 @@ ghost use Prim.Native.Nat.{_+_, _*_, _-_, _≤_, _<_};
 ghost use mathlib.Core.Bool.{true, false};
 ghost use lib.ListN.{length, getD};
 ghost use Rattle.lists.specs.Choice.{pick};
-ghost use Rattle.table.specs.Nodes.{noTable};
 ghost use Rattle.book.specs.Entries.{joined, joinedAt, entryFrom, entryOf, usesIn, isNode, formedBy, badForm, badArg, badInterval, badLength, badHead};
-ghost use Rattle.book.specs.Reading.{refused, headFault, reading, codeOf};
+ghost use Rattle.book.specs.Reading.{refused, headFault, reading};
 ghost use Rattle.book.specs.Steps.{entered, nodeBy, nodeAdded, ruleAdded, added};
 ghost use Rattle.book.specs.Steps.{badLink, badOperand, tooMany, tooLong, nameUsed, walkFault, begun, ended};
 
@@ -338,6 +337,7 @@ fn head_fault(s: &[u8]) -> u8
     either(bad_head(e), 2, f3)
 }
 
+// The table of a book that is accepted; or the number of the refusal, the record, and no table.
 pub fn read(book: &[u8]) -> Reading
     ensures { λ r. ⌜ r ≡ reading (now (book .entry)) ⌝ }
 {
@@ -359,12 +359,4 @@ pub fn read(book: &[u8]) -> Reading
         at = e.next;
     }
     end(w)
-}
-
-// 0 for a book that is accepted, or the number of its refusal and 256 times the record.
-pub fn check(book: &[u8]) -> u32
-    ensures { λ r. ⌜ r ≡ codeOf (reading (now (book .entry))) ⌝ }
-{
-    let r = read(book);
-    r.number as u32 + 256 * (r.record as u32)
 }

@@ -2,14 +2,12 @@
 use Prim.Native.Nat.{ℕ, _+_, _*_, _/_, _%_, _≤_, _<_}
 use native.Mathlib.Nat.{div-div-eq-div-mul}
 use native.Mathlib.Omega.{arith}
-use mathlib.Core.Path.{_≡_, refl, sym, ap, _∙_}
+use mathlib.Core.Path.{_≡_, sym, ap, _∙_}
 use mathlib.Core.List.{List, _++_}
 use lib.ListN.{length, getD, take, drop, set, length-append, length-drop, length-set, take-append-drop}
 use lib.Seq.{getD-set-same, getD-set-other, take-set-le, take-at}
 use borrow.Author.Tests.{eq-eqb}
-use Rattle.lists.specs.Sequence.{ticks}
 use Rattle.lists.proofs.Sequences.{length-ticks}
-use Rattle.table.specs.declared.Table.{Table}
 use Rattle.table.specs.Sound.{Sound}
 use Rattle.flat.specs.Flat.{tableByte, tableBytes, tableFrom, written}
 use Rattle.flat.proofs.Laws.{read-written, written-is}

@@ -1,5 +1,5 @@
 -- The answers of the interface from those of the functions below it. Assumes nothing.
-use Prim.Native.Nat.{ℕ, _+_, _-_, _%_, _≤_, _<_, min}
+use Prim.Native.Nat.{ℕ, _%_, _≤_}
 use native.Mathlib.Omega.{arith}
 use mathlib.Core.Path.{_≡_, refl, sym, ap, subst, _∙_}
 use mathlib.Core.Bool.{true, false}
@@ -11,15 +11,14 @@ use lib.ListN.{length}
 use Rattle.lists.proofs.Tests.{true-or-false}
 use Rattle.table.specs.declared.Table.{Table}
 use Rattle.table.specs.Nodes.{noTable}
-use Rattle.table.specs.Sound.{Sound}
 use Rattle.flat.specs.Flat.{tableFrom, written}
 use Rattle.simplify.specs.declared.Simplified.{Simplified}
 use Rattle.simplify.specs.Promise.{Promised}
+use Rattle.verdict.specs.Verdict.{Answered}
 use Rattle.session.specs.declared.Session.{Session}
 use Rattle.session.specs.declared.Opening.{Opening}
 use Rattle.session.specs.declared.Answer.{Answer}
-use Rattle.session.specs.Session.{Effect, unfit, delayOf, opening, feedNumber, feeding, closeNumber, closing}
-use Rattle.session.specs.Ready.{Fit}
+use Rattle.session.specs.Session.{Effect, unfit, opening, feedNumber, feeding, closeNumber, closing}
 use Rattle.session.proofs.Answers.{feed-fits, close-fits, unfit-short}
 use Rattle.capi.specs.Answers.{sessionAnswer, Simplifies, fourAt, putFour, sessionFrom, sessionWritten, counted, Called}
 
@@ -33,6 +32,10 @@ module _ (b : List ℕ) {t : Table} {r : Simplified} (e : t ≡ tableFrom b) (p 
 
   pub new-bytes : {b′ : List ℕ} → r .number ≡ 0 → b′ ≡ written (r .table) b → Simplifies b 0 b′
   new-bytes n q = record { answer = r; promised = promise; told = sym n; bytes = rw (eq-eqb (r .number) 0 n) q }
+
+-- ---- whole-trace verdicts
+pub answered-by : {t u : Table} {rule n : ℕ} {states x o x′ o′ : List ℕ} → t ≡ u → Answered t rule states x o n x′ o′ → Answered u rule states x o n x′ o′
+answered-by {rule = rule} {n = n} {states = states} {x = x} {o = o} {x′ = x′} {o′ = o′} e p = subst (λ (z : Table). Answered z rule states x o n x′ o′) e p
 
 -- ---- sessions from bytes, and to bytes
 module _ (b : List ℕ) {rule seen high : ℕ} (p : rule ≡ fourAt b 546) (q : seen ≡ fourAt b 550) (h : high ≡ fourAt b 554) where
@@ -69,7 +72,16 @@ called-is {b = b} p q = record {
   out-is = ap (λ (z : Effect). z .out) p;
 }
 
+-- the session is what its bytes hold
+pub called-by : (run : Session → Effect) {s z : Session} {r : Answer} {b b′ h x o : List ℕ} → _≡_ {A = Effect} (record { answer = r; history = h; scratch = x; out = o }) (run s)
+    → s ≡ z → b′ ≡ counted r b → Called (run z) b (sessionAnswer r) b′ h x o
+called-by run p e q = called-is (p ∙ ap run e) q
+
 -- counts are small
+pub count-within : {e : Effect} {r : Answer} {h x o : List ℕ} (n : ℕ) → _≡_ {A = Effect} (record { answer = r; history = h; scratch = x; out = o }) e → e .answer .count ≤ n
+    → r .count ≤ n
+count-within n p l = rw (ap (λ (z : Effect). z .answer .count) p) l
+
 pub feed-count : (s : Session) (block h x o : List ℕ) → feeding s block h x o .answer .count ≤ 1024
 unfolding feeding
 feed-count s block h x o =

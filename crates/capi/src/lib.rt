@@ -1,7 +1,6 @@
 // The interface for programs in other languages: include/juntreak.h declares each function. A table is 546 bytes, a session 558.
 ghost use mathlib.Core.Path.{_≡_};
 ghost use Prim.Native.Nat.{_+_, _≤_, _%_};
-ghost use lib.ListN.{length};
 ghost use Rattle.interval.specs.Parts.{splitting};
 ghost use Rattle.table.specs.Sound.{ruleDelay};
 ghost use Rattle.book.specs.Reading.{reading, codeOf};
@@ -17,7 +16,8 @@ use session::Session;
 pub extern "C" fn juntreak_check_book(book: &[u8]) -> u32
     ensures { λ r. ⌜ r ≡ codeOf (reading (now (book .entry))) ⌝ }
 {
-    book::check(book)
+    let r = book::read(book);
+    r.number as u32 + 256 * (r.record as u32)
 }
 
 // The same, with the table of the book, which is all zeros where it is refused.
@@ -25,9 +25,9 @@ pub extern "C" fn juntreak_check_book(book: &[u8]) -> u32
 pub extern "C" fn juntreak_read(book: &[u8], table: &mut [u8; 546]) -> u32
     ensures { λ r. ⌜ (r ≡ codeOf (reading (now (book .entry)))) × (now (table .exit) ≡ written (reading (now (book .entry)) .table) (now (table .entry))) ⌝ }
 {
-    let r = book::read(book);
-    flat::write_table(r.table, table);
-    r.number as u32 + 256 * (r.record as u32)
+    let got = book::read(book);
+    flat::write_table(got.table, table);
+    got.number as u32 + 256 * (got.record as u32)
 }
 
 // The delay of a rule of the table.
