@@ -1,6 +1,10 @@
-//! The proved library as Rust sees it (`library`), models written from the documents alone (`model`), and random input (`random`).
+//! The proved library as Rust sees it (`library`), models written from the documents alone (`model`, `program`), random input
+//! (`random`), plain Rust to compare speeds with (`twin`, `plain`), and where programs run (`place`).
 pub mod library;
 pub mod model;
+pub mod place;
+pub mod plain;
+pub mod program;
 pub mod random;
 pub mod twin;
 

@@ -151,6 +151,62 @@ pub fn book(r: &mut Random, t: &Table) -> Vec<u8> {
     b
 }
 
+/// One damage to a book: a byte, a field, a link, the length.
+pub fn damage_book(r: &mut Random, b: &mut Vec<u8>) {
+    if b.is_empty() {
+        return;
+    }
+    let records = (b.len() / 12).max(1);
+    let record = r.below(records as u64) as usize;
+    let at = |k: usize| (record * 12 + k).min(b.len() - 1);
+    match r.below(12) {
+        0 => {
+            let i = r.below(b.len() as u64) as usize;
+            b[i] = r.next() as u8;
+        }
+        1 => {
+            let i = at(0);
+            b[i] = r.below(14) as u8;
+        }
+        2 => {
+            let i = at(1);
+            b[i] = r.pick(&[0, 1, 31, 32, 33, 255]);
+        }
+        3 => {
+            let i = at(5);
+            b[i] = r.pick(&[0, 15, 16, 255]);
+        }
+        4 => {
+            let i = at(3);
+            b[i] = r.pick(&[0, 15, 16]);
+        }
+        5 => {
+            let i = at(6);
+            b[i] = r.below(records as u64 + 1) as u8;
+        }
+        6 => {
+            let i = at(7);
+            b[i] = r.below(records as u64 + 1) as u8;
+        }
+        7 | 8 => {
+            let i = at(8);
+            b[i] = r.pick(&[0, record as u8, (records - 1) as u8, records as u8, 255, 1]);
+        }
+        9 => {
+            let i = at(9 + r.below(3) as usize);
+            b[i] = 1;
+        }
+        10 => {
+            let n = r.below(b.len() as u64 + 1) as usize;
+            b.truncate(n);
+        }
+        _ => {
+            let n = r.below(30) as usize;
+            b.extend(std::iter::repeat(0).take(n));
+        }
+    }
+}
+
 /// Words of dirt.
 pub fn words(r: &mut Random, n: usize) -> Vec<u64> {
     (0..n).map(|_| r.next()).collect()

@@ -1,7 +1,7 @@
 //! Books, delays and splittings, against the models.
 use juntreak_tests::library::{check_book, delay, read, split};
 use juntreak_tests::model;
-use juntreak_tests::random::{book, table, Random};
+use juntreak_tests::random::{book, damage_book, table, Random};
 
 /// Every answer about one book; returns the number of the refusal.
 fn compare(b: &[u8], dirt: u8) -> u8 {
@@ -19,62 +19,6 @@ fn compare(b: &[u8], dirt: u8) -> u8 {
         }
     }
     number
-}
-
-/// One damage to a book: a byte, a field, a link, the length.
-fn damage(r: &mut Random, b: &mut Vec<u8>) {
-    if b.is_empty() {
-        return;
-    }
-    let records = (b.len() / 12).max(1);
-    let record = r.below(records as u64) as usize;
-    let at = |k: usize| (record * 12 + k).min(b.len() - 1);
-    match r.below(12) {
-        0 => {
-            let i = r.below(b.len() as u64) as usize;
-            b[i] = r.next() as u8;
-        }
-        1 => {
-            let i = at(0);
-            b[i] = r.below(14) as u8;
-        }
-        2 => {
-            let i = at(1);
-            b[i] = r.pick(&[0, 1, 31, 32, 33, 255]);
-        }
-        3 => {
-            let i = at(5);
-            b[i] = r.pick(&[0, 15, 16, 255]);
-        }
-        4 => {
-            let i = at(3);
-            b[i] = r.pick(&[0, 15, 16]);
-        }
-        5 => {
-            let i = at(6);
-            b[i] = r.below(records as u64 + 1) as u8;
-        }
-        6 => {
-            let i = at(7);
-            b[i] = r.below(records as u64 + 1) as u8;
-        }
-        7 | 8 => {
-            let i = at(8);
-            b[i] = r.pick(&[0, record as u8, (records - 1) as u8, records as u8, 255, 1]);
-        }
-        9 => {
-            let i = at(9 + r.below(3) as usize);
-            b[i] = 1;
-        }
-        10 => {
-            let n = r.below(b.len() as u64 + 1) as usize;
-            b.truncate(n);
-        }
-        _ => {
-            let n = r.below(30) as usize;
-            b.extend(std::iter::repeat(0).take(n));
-        }
-    }
 }
 
 /// A book chained 1, 2, 3 up of the given records.
@@ -111,7 +55,7 @@ fn random_valid_and_damaged_books() {
         let mut b = book(&mut r, &t);
         assert_eq!(model::read(&b), Ok(t.clone()));
         for _ in 0..r.below(3) {
-            damage(&mut r, &mut b);
+            damage_book(&mut r, &mut b);
         }
         seen[compare(&b, round as u8) as usize] += 1;
     }
