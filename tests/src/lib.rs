@@ -1,10 +1,15 @@
 //! The proved library as Rust sees it (`library`), models written from the documents alone (`model`, `program`), random input
-//! (`random`), plain Rust to compare speeds with (`twin`, `plain`), and where programs run (`place`).
+//! (`random`), and where programs run (`place`). For the benchmarks (`bench`): the formulas (`formulas`), and what the library and the
+//! program are compared with (`naive`, `queue`, `twin`, `plain`).
+pub mod bench;
+pub mod formulas;
 pub mod library;
 pub mod model;
+pub mod naive;
 pub mod place;
 pub mod plain;
 pub mod program;
+pub mod queue;
 pub mod random;
 pub mod twin;
 

@@ -26,9 +26,14 @@ pub fn check_book(book: &[u8]) -> u32 {
 /// The number, the record, and the table, into a buffer that held `dirt`.
 pub fn read(book: &[u8], dirt: u8) -> (u8, u8, TableBytes) {
     let mut table = [dirt; TABLE];
-    let r = unsafe { raw::juntreak_read(book.as_ptr(), book.len(), &mut table) };
+    let r = read_into(book, &mut table);
     assert!(r < 65536);
     ((r % 256) as u8, (r / 256) as u8, table)
+}
+
+/// The number and 256 times the record.
+pub fn read_into(book: &[u8], table: &mut TableBytes) -> u32 {
+    unsafe { raw::juntreak_read(book.as_ptr(), book.len(), table) }
 }
 
 /// The number and the delay.
@@ -57,8 +62,13 @@ pub fn simplify(table: &mut TableBytes) -> u32 {
 /// The number and the session, into a buffer that held `dirt`.
 pub fn open(table: &TableBytes, rule: u32, dirt: u8) -> (u32, SessionBytes) {
     let mut session = [dirt; SESSION];
-    let number = unsafe { raw::juntreak_open(table, rule, &mut session) };
+    let number = open_into(table, rule, &mut session);
     (number, session)
+}
+
+/// The number.
+pub fn open_into(table: &TableBytes, rule: u32, session: &mut SessionBytes) -> u32 {
+    unsafe { raw::juntreak_open(table, rule, session) }
 }
 
 /// The number and the count.

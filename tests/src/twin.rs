@@ -1,5 +1,6 @@
 //! A plain Rust evaluator by the same word algorithm and with the same duties as the proved one, to compare speeds with: it parses
-//! and checks the table, computes the nodes that are needed on 64-bit words in registers of 80, and clears the scratch.
+//! and checks the table, computes the nodes that are needed on 64-bit words in registers of 80, and clears the scratch. Its sessions
+//! parse and check the session's bytes at each call, refuse by the same numbers, and keep the history.
 use crate::model::{Node, Rule};
 
 pub struct Parsed {
@@ -37,20 +38,21 @@ fn fits(n: &Node, place: usize) -> bool {
         && (n.right as usize) < below(matches!(k, 5 | 6 | 9 | 10), place)
 }
 
-fn sound(t: &Parsed) -> bool {
+/// The delays of the nodes, if the table is sound.
+fn sound(t: &Parsed) -> Option<[u32; 64]> {
     if t.count > 64 || t.rule_count == 0 || t.rule_count > 8 {
-        return false;
+        return None;
     }
     let mut delays = [0u32; 64];
     for (i, n) in t.nodes.iter().enumerate() {
         if i >= t.count {
             if *n != NO_NODE {
-                return false;
+                return None;
             }
             continue;
         }
         if !fits(n, i) {
-            return false;
+            return None;
         }
         let (a, b) = (delays[n.left as usize], delays[n.right as usize]);
         delays[i] = match n.kind {
@@ -61,19 +63,19 @@ fn sound(t: &Parsed) -> bool {
             _ => n.hi as u32 + a.max(b),
         };
         if delays[i] > 4095 {
-            return false;
+            return None;
         }
     }
     for (i, r) in t.rules.iter().enumerate() {
         if i >= t.rule_count {
             if *r != NO_RULE {
-                return false;
+                return None;
             }
         } else if r.name == 0 || r.name > 255 || r.watched as usize >= t.count || t.rules[..i].iter().any(|q| q.name == r.name) {
-            return false;
+            return None;
         }
     }
-    true
+    Some(delays)
 }
 
 /// Word w of a register moved down by `by` bits.
@@ -145,48 +147,166 @@ fn flip(s: &mut [u64], n: usize) {
     }
 }
 
-fn column(s: &mut [u64], states: &[u32], signal: u8) {
-    for (x, block) in s.iter_mut().zip(states.chunks(64)) {
-        *x = block.iter().enumerate().fold(0, |x, (j, state)| x | ((state >> signal & 1) as u64) << j);
+/// A signal's bits of up to 64 states.
+#[inline(always)]
+fn gathered<'a>(states: impl Iterator<Item = &'a u32>, signal: u8) -> u64 {
+    states.enumerate().fold(0, |x, (j, state)| x | ((state >> signal & 1) as u64) << j)
+}
+
+fn column(s: &mut [u64], trace: Trace, signal: u8) {
+    let (older, newer) = trace;
+    for (w, x) in s.iter_mut().enumerate() {
+        let from = 64 * w;
+        *x = if from + 64 <= older.len() {
+            gathered(older[from..from + 64].iter(), signal)
+        } else if from >= older.len() && from - older.len() + 64 <= newer.len() {
+            gathered(newer[from - older.len()..from - older.len() + 64].iter(), signal)
+        } else {
+            gathered(older.iter().chain(newer).skip(from).take(64), signal)
+        };
     }
+}
+
+/// A trace in two parts, read where they lie.
+type Trace<'a> = (&'a [u32], &'a [u32]);
+
+fn needed(nodes: &[Node; 64], k: usize) -> [bool; 64] {
+    let mut needed = [false; 64];
+    needed[k] = true;
+    for i in (0..=k).rev() {
+        if needed[i] && nodes[i].kind >= 4 {
+            needed[nodes[i].left as usize] = true;
+            if matches!(nodes[i].kind, 5 | 6 | 9 | 10) {
+                needed[nodes[i].right as usize] = true;
+            }
+        }
+    }
+    needed
+}
+
+/// The verdicts of node k at the first `count` ticks, with the scratch cleared.
+fn judge(t: &Parsed, k: usize, trace: Trace, count: usize, scratch: &mut [u64], out: &mut [u64]) {
+    let n = trace.0.len() + trace.1.len();
+    let needed = needed(&t.nodes, k);
+    for i in (0..=k).filter(|i| needed[*i]) {
+        node(&t.nodes[i], i, n, trace, &mut scratch[..5280]);
+    }
+    let m = count.div_ceil(64);
+    out[..m].copy_from_slice(&scratch[80 * k..80 * k + m]);
+    if m > 0 {
+        out[m - 1] &= below(count, m - 1);
+    }
+    scratch[..5280].fill(0);
 }
 
 pub fn verdicts(table: &[u8; 546], rule: u32, states: &[u32], scratch: &mut [u64], out: &mut [u64]) -> u32 {
     let Some(t) = parse(table) else { return 25 };
-    if !sound(&t) {
+    if sound(&t).is_none() {
         return 25;
     }
     if rule as usize >= t.rule_count {
         return 21;
     }
-    let n = states.len();
-    let m = n.div_ceil(64);
-    if n > 5120 {
+    if states.len() > 5120 {
         return 22;
     }
-    if scratch.len() < 5280 || out.len() < m {
+    if scratch.len() < 5280 || out.len() < states.len().div_ceil(64) {
         return 23;
     }
-    let k = t.rules[rule as usize].watched as usize;
-    let mut needed = [false; 64];
-    needed[k] = true;
-    for i in (0..=k).rev() {
-        if needed[i] && t.nodes[i].kind >= 4 {
-            needed[t.nodes[i].left as usize] = true;
-            if matches!(t.nodes[i].kind, 5 | 6 | 9 | 10) {
-                needed[t.nodes[i].right as usize] = true;
-            }
-        }
-    }
-    for i in (0..=k).filter(|i| needed[*i]) {
-        node(&t.nodes[i], i, m, n, states, &mut scratch[..5280]);
-    }
-    out[..m].copy_from_slice(&scratch[80 * k..80 * k + m]);
-    scratch[..5280].fill(0);
+    judge(&t, t.rules[rule as usize].watched as usize, (&[], states), states.len(), scratch, out);
     0
 }
 
-fn node(x: &Node, i: usize, m: usize, n: usize, states: &[u32], scratch: &mut [u64]) {
+/// What the bytes of a session say, if they are a session's.
+struct Session {
+    table: Parsed,
+    watched: usize,
+    delay: usize,
+    seen: usize,
+}
+
+impl Session {
+    fn parse(b: &[u8; 558]) -> Option<Session> {
+        let rule = u32::from_le_bytes(b[546..550].try_into().unwrap()) as usize;
+        let seen = u64::from_le_bytes(b[550..].try_into().unwrap());
+        if seen > u32::MAX as u64 {
+            return None;
+        }
+        let table = parse(b[..546].try_into().unwrap())?;
+        let delays = sound(&table)?;
+        if rule >= table.rule_count {
+            return None;
+        }
+        let watched = table.rules[rule].watched as usize;
+        Some(Session { table, watched, delay: delays[watched] as usize, seen: seen as usize })
+    }
+}
+
+fn put_seen(session: &mut [u8; 558], seen: usize) {
+    session[550..554].copy_from_slice(&(seen as u32).to_le_bytes());
+}
+
+/// The number and the session.
+pub fn open(table: &[u8; 546], rule: u32) -> (u32, [u8; 558]) {
+    let mut session = [0; 558];
+    let Some(t) = parse(table) else { return (25, session) };
+    if sound(&t).is_none() {
+        return (25, session);
+    }
+    if rule as usize >= t.rule_count {
+        return (21, session);
+    }
+    session[..546].copy_from_slice(table);
+    session[546..550].copy_from_slice(&rule.to_le_bytes());
+    (0, session)
+}
+
+/// Of the first h states of history and then the block, the last `left` go to history's first places.
+fn keep(history: &mut [u32], h: usize, block: &[u32], left: usize) {
+    let skip = h + block.len() - left;
+    let m = h.saturating_sub(skip);
+    history.copy_within(skip.min(h)..h, 0);
+    history[m..left].copy_from_slice(&block[skip.saturating_sub(h)..]);
+}
+
+/// The number and the count.
+pub fn feed(session: &mut [u8; 558], block: &[u32], history: &mut [u32], scratch: &mut [u64], out: &mut [u64]) -> (u32, u32) {
+    let Some(s) = Session::parse(session) else { return (25, 0) };
+    if block.len() > 1024 {
+        return (22, 0);
+    }
+    if history.len() < 4095 || scratch.len() < 5280 || out.len() < 16 {
+        return (23, 0);
+    }
+    let after = s.seen + block.len();
+    if after > u32::MAX as usize {
+        return (24, 0);
+    }
+    let h = s.seen.min(s.delay);
+    let count = after.saturating_sub(s.delay) - s.seen.saturating_sub(s.delay);
+    judge(&s.table, s.watched, (&history[..h], block), count, scratch, out);
+    out[count.div_ceil(64)..16].fill(0);
+    keep(history, h, block, after.min(s.delay));
+    put_seen(session, after);
+    (0, count as u32)
+}
+
+/// The number and the count.
+pub fn close(session: &mut [u8; 558], history: &[u32], scratch: &mut [u64], out: &mut [u64]) -> (u32, u32) {
+    let Some(s) = Session::parse(session) else { return (25, 0) };
+    if history.len() < 4095 || scratch.len() < 5280 || out.len() < 64 {
+        return (23, 0);
+    }
+    let count = s.seen.min(s.delay);
+    judge(&s.table, s.watched, (&history[..count], &[]), count, scratch, out);
+    out[count.div_ceil(64)..64].fill(0);
+    put_seen(session, 0);
+    (0, count as u32)
+}
+
+/// The column of node x at place i, for a trace of n states.
+fn node(x: &Node, i: usize, n: usize, trace: Trace, scratch: &mut [u64]) {
+    let m = n.div_ceil(64);
     let (operands, rest) = scratch.split_at_mut(80 * i);
     let (own, work) = rest.split_at_mut(5120 - 80 * i);
     let own = &mut own[..m];
@@ -194,7 +314,7 @@ fn node(x: &Node, i: usize, m: usize, n: usize, states: &[u32], scratch: &mut [u
     let (spare, third) = (&mut spare[..m], &mut third[..m]);
     let register = |p: u8| &operands[80 * p as usize..80 * p as usize + m];
     match x.kind {
-        1 => column(own, states, x.arg),
+        1 => column(own, trace, x.arg),
         2 => own.iter_mut().enumerate().for_each(|(w, y)| *y = below(n, w)),
         3 => own.fill(0),
         4 => {

@@ -1,0 +1,106 @@
+//! The memory of a session: the lent buffers, and the stack of each call, found by running it on a painted one.
+use super::markdown::{number, table};
+use super::runs::{dense, Buffers, BLOCK};
+use crate::formulas;
+use crate::library::{self, SessionBytes, TableBytes};
+use crate::model::Table;
+use crate::queue::Monitor;
+use crate::random::{self, Random};
+
+const STACK: usize = 1 << 16;
+const PAINT: u8 = 0xa5;
+
+/// Calls `f` on a stack of its own, which ends at `top`.
+#[cfg(target_arch = "x86_64")]
+fn on_stack(top: *mut u8, f: &mut dyn FnMut()) {
+    extern "C" fn enter(f: *mut &mut dyn FnMut()) {
+        unsafe { (*f)() }
+    }
+    let mut f = f;
+    let f: *mut &mut dyn FnMut() = &mut f;
+    unsafe {
+        std::arch::asm!(
+            "mov r12, rsp",
+            "mov rsp, {top}",
+            "call {enter}",
+            "mov rsp, r12",
+            top = in(reg) top,
+            enter = sym enter,
+            in("rdi") f,
+            out("r12") _,
+            clobber_abi("C"),
+        );
+    }
+}
+
+/// How many bytes of stack `f` uses, on a stack of 64 KiB: those from the lowest that has changed.
+#[cfg(target_arch = "x86_64")]
+fn stack_of(mut f: impl FnMut()) -> Option<usize> {
+    let mut stack = vec![[PAINT; 16]; STACK / 16];
+    on_stack(stack.as_mut_ptr_range().end.cast(), &mut f);
+    let untouched = stack.as_flattened().iter().take_while(|b| **b == PAINT).count();
+    assert!(untouched > 0, "the stack is too small");
+    Some(STACK - untouched)
+}
+
+#[cfg(not(target_arch = "x86_64"))]
+fn stack_of(_: impl FnMut()) -> Option<usize> {
+    None
+}
+
+/// A session that has seen `seen` states, and its buffers.
+fn under_way(table: &TableBytes, seen: usize) -> (SessionBytes, Buffers) {
+    let (mut s, mut b) = (library::open(table, 0, 0).1, Buffers::default());
+    for block in dense(seen).chunks(BLOCK) {
+        library::feed(&mut s, block, &mut b.history, &mut b.scratch, &mut b.out);
+    }
+    (s, b)
+}
+
+/// The stacks of the accepted calls over one table.
+fn stacks_of(t: &Table) -> [Option<usize>; 6] {
+    let (states, bytes) = (dense(5120), t.bytes());
+    let book = random::book(&mut Random(1), t);
+    let (mut session, mut b) = under_way(&bytes, 5000);
+    let (mut ended, mut table, mut opened, mut out) = (session, bytes, session, [0; 80]);
+    [
+        stack_of(|| assert_eq!(library::read_into(&book, &mut table), 0)),
+        stack_of(|| assert_eq!(library::simplify(&mut table), 0)),
+        stack_of(|| assert_eq!(library::open_into(&bytes, 0, &mut opened), 0)),
+        stack_of(|| assert_eq!(library::feed(&mut session, &states[..BLOCK], &mut b.history, &mut b.scratch, &mut b.out).0, 0)),
+        stack_of(|| assert_eq!(library::close(&mut ended, &b.history, &mut b.scratch, &mut b.out).0, 0)),
+        stack_of(|| assert_eq!(library::verdicts(&bytes, 0, &states, &mut b.scratch, &mut out), 0)),
+    ]
+}
+
+/// The largest stack of each function, over the benchmarks' formulas, one of 64 nodes, and windows of the length that splits into most parts.
+fn stacks() -> Vec<Vec<String>> {
+    let tables = formulas::all().into_iter().map(|f| f.1).chain([formulas::of_nodes(64), formulas::finally(0, 4084), formulas::until(0, 4084)]);
+    let all: Vec<_> = tables.map(|t| stacks_of(&t)).collect();
+    let names = ["juntreak_read", "juntreak_simplify", "juntreak_open", "juntreak_feed", "juntreak_close", "juntreak_verdicts"];
+    let largest = |i: usize| all.iter().map(|x| x[i]).max().unwrap();
+    names.iter().enumerate().map(|(i, name)| vec![name.to_string(), largest(i).map_or("not measured".into(), bytes)]).collect()
+}
+
+fn bytes(n: usize) -> String {
+    number(n as f64, 0)
+}
+
+pub fn run() {
+    let lent = [
+        ("session", "558 bytes", library::SESSION),
+        ("history", "4,095 u32", 4 * 4095),
+        ("scratch", "5,280 u64", 8 * 5280),
+        ("out", "64 u64 (a feed needs 16)", 8 * 64),
+        ("block", "1,024 u32", 4 * BLOCK),
+    ];
+    let mut rows: Vec<_> = lent.iter().map(|(name, what, n)| vec![name.to_string(), what.to_string(), bytes(*n)]).collect();
+    rows.push(vec!["together".into(), "".into(), bytes(lent.iter().map(|x| x.2).sum())]);
+    table("Memory that the caller lends to a session, in bytes:", &["Buffer", "Holds", "Bytes"], &rows);
+
+    table("Stack of one call, in bytes:", &["Function", "Stack"], &stacks());
+
+    let queues = |t, block| bytes(Monitor::new(t, 0, block).queue_bytes());
+    let rows: Vec<_> = formulas::all().iter().map(|(name, t)| vec![name.to_string(), queues(t, 1), queues(t, BLOCK)]).collect();
+    table("Queues of the queue-based monitor, in bytes:", &["Formula", "tick by tick", "in blocks"], &rows);
+}

@@ -1,0 +1,9 @@
+//! The benchmarks, a module for each group of tables.
+pub mod clock;
+pub mod growth;
+pub mod markdown;
+pub mod memory;
+pub mod plot;
+pub mod runs;
+pub mod stream;
+pub mod whole;

@@ -1,0 +1,167 @@
+//! What the benchmarks compare the library with: the queue-based monitor and the naive stream against the naive evaluator, the twin against the model.
+use juntreak_tests::formulas;
+use juntreak_tests::model::{self, Session, Table};
+use juntreak_tests::naive::Stream;
+use juntreak_tests::queue::Monitor;
+use juntreak_tests::random::{damage, short_words, table, trace, words, Random};
+use juntreak_tests::{same, twin};
+
+/// The verdicts that the queue-based monitor gives, in its order.
+fn queue_verdicts(t: &Table, rule: usize, states: &[u32], block: usize) -> Vec<bool> {
+    let mut monitor = Monitor::new(t, rule, block);
+    let mut given = vec![];
+    for part in states.chunks(block) {
+        monitor.feed(part, |verdict, count| given.extend(std::iter::repeat_n(verdict, count as usize)));
+        assert!(given.len() <= states.len());
+    }
+    given
+}
+
+/// The same, fed tick by tick.
+fn stepped_verdicts(t: &Table, rule: usize, states: &[u32]) -> Vec<bool> {
+    let mut monitor = Monitor::new(t, rule, 1);
+    let mut given = vec![];
+    for state in states {
+        monitor.step(*state, |verdict, count| given.extend(std::iter::repeat_n(verdict, count as usize)));
+    }
+    given
+}
+
+/// The verdicts that the naive stream gives.
+fn naive_verdicts(t: &Table, rule: usize, states: &[u32], block: usize) -> Vec<bool> {
+    let mut stream = Stream::new(t, rule);
+    let mut given = vec![];
+    for part in states.chunks(block) {
+        stream.feed(part, |verdict| given.push(verdict));
+    }
+    given
+}
+
+/// The queue-based monitor, fed tick by tick and in blocks of several lengths: its verdicts are right, in order, and none that is settled is missing. Answers how
+/// many it gave before they were settled.
+fn queue_compared(t: &Table, rule: usize, states: &[u32], right: &[bool]) -> usize {
+    let settled = states.len().saturating_sub(t.rule_delay(rule) as usize);
+    let mut given = vec![stepped_verdicts(t, rule, states)];
+    given.extend([1, 7, 64, 1024].map(|k| queue_verdicts(t, rule, states, k)));
+    for g in &given {
+        assert!(g.len() >= settled && g[..] == right[..g.len()], "{t:?} rule {rule} {states:?}");
+        assert_eq!(g.len(), given[0].len());
+    }
+    given[0].len() - settled
+}
+
+#[test]
+fn queue_on_short_traces() {
+    let mut r = Random(41);
+    let (mut yes, mut no, mut early) = (0, 0, 0);
+    for _ in 0..6_000 {
+        let count = 1 + r.below(24) as usize;
+        let longest = r.pick(&[300, 70, 20, 9, 0]);
+        let t = table(&mut r, count, longest);
+        let n = r.below(300) as usize;
+        let states = trace(&mut r, n);
+        let rule = r.below(t.rules.len() as u64) as usize;
+        let right = t.verdicts(t.rules[rule].watched as usize, &states);
+        early += queue_compared(&t, rule, &states, &right);
+        yes += right.iter().filter(|v| **v).count();
+        no += right.iter().filter(|v| !**v).count();
+    }
+    assert!(yes > 10_000 && no > 10_000 && early > 10_000, "{yes} {no} {early}");
+}
+
+#[test]
+fn queue_on_long_traces() {
+    let mut r = Random(42);
+    for _ in 0..120 {
+        let count = 1 + r.below(64) as usize;
+        let longest = r.pick(&[4095, 1100, 300]);
+        let t = table(&mut r, count, longest);
+        let states = trace(&mut r, 9_000);
+        let rule = r.below(t.rules.len() as u64) as usize;
+        queue_compared(&t, rule, &states, &t.rule_verdicts(rule, &states));
+    }
+}
+
+#[test]
+fn queue_on_the_benchmarks_formulas() {
+    let mut r = Random(43);
+    for (name, t) in formulas::all() {
+        for states in [short_words(&mut r, 12_000), trace(&mut r, 12_000)] {
+            let early = queue_compared(&t, 0, &states, &t.rule_verdicts(0, &states));
+            println!("{name}: {early}");
+        }
+    }
+}
+
+#[test]
+fn naive_streams() {
+    let mut r = Random(44);
+    for _ in 0..1_500 {
+        let count = 1 + r.below(8) as usize;
+        let t = table(&mut r, count, 20);
+        let n = r.below(150) as usize;
+        let states = trace(&mut r, n);
+        let rule = r.below(t.rules.len() as u64) as usize;
+        let settled = n.saturating_sub(t.rule_delay(rule) as usize);
+        let right = t.verdicts(t.rules[rule].watched as usize, &states);
+        for block in [1, 13, 1024] {
+            assert!(naive_verdicts(&t, rule, &states, block) == right[..settled], "{t:?} rule {rule} {states:?}");
+        }
+    }
+}
+
+/// Now and then something is made unfit: the session's bytes, the block's length, the count of states seen, or a buffer.
+fn spoil(r: &mut Random, session: &mut [u8; 558], block: &mut Vec<u32>, history: &mut Vec<u32>, scratch: &mut Vec<u64>, out: &mut Vec<u64>) {
+    match r.below(16) {
+        0 => damage(r, session),
+        1 => block.resize(r.pick(&[1024, 1025]), 3),
+        2 => session[550..].copy_from_slice(&r.pick(&[5u64, 5000, u32::MAX as u64 - 3, u32::MAX as u64, 1 << 32]).to_le_bytes()),
+        3 => history.truncate(4094),
+        4 => scratch.truncate(5279),
+        5 => out.truncate(r.pick(&[15, 16, 63])),
+        _ => {}
+    }
+}
+
+#[test]
+fn twin_sessions() {
+    let mut r = Random(45);
+    let mut numbers = [0u32; 26];
+    for _ in 0..1_500 {
+        let count = 1 + r.below(12) as usize;
+        let longest = r.pick(&[4095, 1100, 70, 9]);
+        let t = table(&mut r, count, longest);
+        let rule = r.below(t.rules.len() as u64 + 1) as u32;
+        let mut bytes = t.bytes();
+        if r.chance(8) {
+            damage(&mut r, &mut bytes);
+        }
+        let opened = twin::open(&bytes, rule);
+        assert_eq!(opened, model::open(&bytes, rule));
+        let mut session = Session { table: t, rule, seen: 0 }.bytes();
+        let mut history = short_words(&mut r, 4096);
+        for _ in 0..6 {
+            let k = r.pick(&[0, 1, 63, 64, 200, 1024]);
+            let mut block = trace(&mut r, k);
+            let (mut scratch, mut out) = (words(&mut r, 5281), words(&mut r, 65));
+            let (own, own_history) = (session, history.clone());
+            spoil(&mut r, &mut session, &mut block, &mut history, &mut scratch, &mut out);
+            let (mut s, mut h, mut x, mut o) = (session, history.clone(), scratch.clone(), out.clone());
+            let (got, wanted) = if r.chance(5) {
+                (twin::close(&mut session, &history, &mut scratch, &mut out), model::close(&mut s, &h, &mut x, &mut o))
+            } else {
+                (twin::feed(&mut session, &block, &mut history, &mut scratch, &mut out), model::feed(&mut s, &block, &mut h, &mut x, &mut o))
+            };
+            assert_eq!(got, wanted);
+            same("session", &session[..], &s[..]);
+            same("history", &history, &h);
+            same("scratch", &scratch, &x);
+            same("out", &out, &o);
+            numbers[got.0 as usize] += 1;
+            if got.0 != 0 {
+                (session, history) = (own, own_history);
+            }
+        }
+    }
+    assert!([0, 22, 23, 24, 25].iter().all(|n| numbers[*n] > 20), "{numbers:?}");
+}
