@@ -14,6 +14,7 @@ use Rattle.lists.specs.Sequence.{ticks}
 use Rattle.lists.specs.Bits.{bitAt}
 use Rattle.lists.proofs.Tests.{true-or-false, none-test, none-rest, or-left, or-right}
 use Rattle.lists.proofs.Sequences.{length-ticks}
+use Rattle.table.specs.declared.Table.{Table}
 use Rattle.table.specs.Sound.{isSound, delayNumber}
 use Rattle.table.proofs.Soundness.{sound-iff, watched-short}
 use Rattle.session.specs.declared.Session.{Session}
@@ -48,9 +49,12 @@ pick-seen : (t : Bool) (a b : Session) → a .seen ≡ 0 → b .seen ≡ 0 → p
 pick-seen true a b e f = e
 pick-seen false a b e f = f
 
-unseen : (m : Start) → sessionOf m .seen ≡ 0
+pub opened-unseen : (t : Table) (r : ℕ) → opening t r .session .seen ≡ 0
 unfolding opening
-unseen m = pick-seen (eqb (delayNumber (m .simplified .table) (m .rule)) 0) (record { table = m .simplified .table; rule = m .rule; seen = 0 }) noSession refl refl
+opened-unseen t r = pick-seen (eqb (delayNumber t r) 0) (record { table = t; rule = r; seen = 0 }) noSession refl refl
+
+unseen : (m : Start) → sessionOf m .seen ≡ 0
+unseen m = opened-unseen (m .simplified .table) (m .rule)
 
 first-fit : (m : Start) → unfit (sessionOf m) ≡ false
 unfolding opening

@@ -3,30 +3,38 @@ use Prim.Native.Nat.{ℕ, _+_, _-_, _≤_, _<_, min}
 use native.Mathlib.Omega.{arith}
 use mathlib.Core.Path.{_≡_, refl, sym, ap, subst, _∙_}
 use mathlib.Core.Bool.{Bool, true, false, not, _||_, false≢true, true≢false}
-use mathlib.Core.List.{List, [], _∷_, _++_, append-nil}
-use borrow.Author.Tests.{le-ltb, eq-eqb, ltb-false}
+use mathlib.Core.List.{List, [], _∷_, _++_, map, append-nil}
+use borrow.Author.Tests.{le-ltb, lt-leb, eq-eqb, ltb-false}
 use lib.Dec.{eqb, ltb}
-use lib.ListN.{length, take, drop, length-append, length-drop}
+use lib.ListN.{length, getD, take, drop, length-append, length-drop, length-map, List·getD-map}
 use lib.Seq.{sets, sets-eq, length-take-le, take-append-seam, length-sets}
 use Rattle.lists.specs.Choice.{pick}
 use Rattle.lists.specs.Sequence.{ticks}
 use Rattle.lists.specs.Bits.{bitAt}
 use Rattle.session.specs.declared.Session.{Session}
 use Rattle.session.specs.declared.Answer.{Answer}
-use Rattle.session.specs.Session.{Effect, fed, feeding, closing, delayOf, unfit}
+use Rattle.session.specs.Session.{Effect, opening, fed, feeding, closing, delayOf, unfit}
 use Rattle.session.proofs.Effects.{feed-accepted, close-accepted as close-is}
+use Rattle.table.specs.declared.Table.{Table}
+use Rattle.table.specs.declared.Rule.{Rule}
+use Rattle.table.specs.Sound.{isSound}
+use Rattle.table.proofs.Soundness.{sound-iff}
+use Rattle.book.specs.Reading.{reading}
+use Rattle.book.proofs.Sound.{accepted-sound}
+use Rattle.simplify.specs.declared.Simplified.{Simplified}
+use Rattle.simplify.specs.Promise.{Promised, Simpler}
 use Rattle.mission.specs.Mission.{Start}
 use Rattle.lines.specs.declared.Line.{Line}
 use Rattle.lines.specs.declared.Filled.{Filled}
-use Rattle.lines.specs.Lines.{Filling, filling, filledFrom}
+use Rattle.lines.specs.Lines.{empty, Filling, filling, filledFrom}
 use Rattle.lines.proofs.Laws.{fill-stops}
 use Rattle.rows.specs.Rows.{Put, rowsOf, fitting, badLine, feedLine}
 use Rattle.rows.proofs.Laws.{put-bytes}
-use Rattle.transcript.specs.Printed.{ruleName, printed, Running, Stopped}
-use Rattle.transcript.proofs.Steps.{few, delay-short, running-lines, stopped-bad, running-fed, stopped-fed, close-accepted, printed-all}
+use Rattle.transcript.specs.Printed.{nameOf, ruleName, printed, Running, Stopped}
+use Rattle.transcript.proofs.Steps.{running-begin, few, delay-short, running-lines, stopped-bad, running-fed, stopped-fed, close-accepted, printed-all}
 use Rattle.watch.specs.declared.Progress.{Progress}
 use Rattle.watch.specs.declared.Outcome.{Outcome}
-use Rattle.watch.specs.Steps.{Runs, Follows, Ready, Fed, Steps, Closes}
+use Rattle.watch.specs.Steps.{Runs, Follows, Begins, Ready, Fed, Steps, Closes}
 
 -- rows that fit, at the start of the text
 fitting-is : (name tick : ℕ) (words : List ℕ) (count : ℕ) → count ≤ 4096 → tick ≤ 4294967295 → fitting name tick words count ≡ rowsOf name tick (ticks (bitAt words) count)
@@ -39,6 +47,55 @@ last-test false true r s e = absurd (omega arith)
 last-test false false true s e = absurd (omega arith)
 last-test false false false true e = absurd (omega arith)
 last-test false false false false e = refl
+
+-- ---- the start
+first-of : (xs : List ℕ) (a b : ℕ) → 0 < length xs → getD xs 0 a ≡ getD xs 0 b
+first-of [] a b h = absurd (omega arith)
+first-of (x ∷ xs) a b h = refl
+
+module _ (t : Table) (s : Simplified) (promised : Promised t s) (d : Rule) where
+  abbrev begun : Progress
+  begun = record { session = opening (s .table) 0 .session; name = getD (s .table .rules) 0 d .name; line = empty; count = 0; tick = 0; going = true }
+
+  -- a simplification has as many rules, with the same names, and one at least
+  module _ (sound : isSound t ≡ true) where
+    simpler : Simpler t (s .table)
+    simpler = promised .accepted sound .1
+
+    some-rule : 1 ≤ s .table .«rule_count»
+    some-rule = sound-iff (s .table) .0 (simpler .sound) .some-rule
+
+    opens : opening (s .table) 0 .number ≡ 0
+    unfolding opening
+    opens = rw (simpler .sound, lt-leb (s .table .«rule_count») 0 some-rule)
+
+    first-name : getD (s .table .rules) 0 d .name ≡ nameOf (t .rules) 0
+    first-name =
+        sym (List·getD-map (λ (r : Rule). r .name) (s .table .rules) 0 d)
+        ∙ first-of (map (λ (r : Rule). r .name) (s .table .rules)) (d .name) 0 (rw (length-map (s .table .rules) (λ (r : Rule). r .name), sound-iff (s .table) .0 (simpler .sound) .rule-places) (omega arith))
+        ∙ ap (λ (names : List ℕ). getD names 0 0) (simpler .names)
+
+  pub begins : Begins t begun
+  begins book bytes n e h =
+      let sound : isSound t ≡ true = rw (← e) (sound-iff (reading book .table) .1 (accepted-sound book bytes n)) in
+      let m : Start = record {
+        book = book;
+        read = n;
+        simplified = s;
+        promised = rw e promised;
+        accepted = promised .accepted sound .0;
+        rule = 0;
+        opened = opens sound;
+        history = h;
+      } in
+      record {
+        start = m;
+        its-book = refl;
+        first-rule = refl;
+        its-history = refl;
+        goes = refl;
+        runs = λ block. (running-begin m, first-name sound ∙ rw e);
+      }
 
 -- ---- a feed
 module _ (p : Progress) (at : ℕ) (h block x o : List ℕ) (a : Answer) (h' x' o' text text' : List ℕ) (used : ℕ)

@@ -2,9 +2,12 @@
 use Prim.Native.Nat.{ℕ, _-_, _≤_, _<_}
 use mathlib.Core.Path.{_≡_}
 use mathlib.Core.Bool.{Bool, true, false, not}
-use mathlib.Core.List.{List, _++_}
+use mathlib.Core.List.{List, [], _++_}
 use lib.Dec.{eqb}
 use lib.ListN.{length, take, drop}
+use Rattle.table.specs.declared.Table.{Table}
+use Rattle.book.specs.Entries.{Bytes}
+use Rattle.book.specs.Reading.{reading}
 use Rattle.mission.specs.Mission.{Start}
 use Rattle.transcript.specs.Printed.{ruleName, printed, Running, Stopped}
 use Rattle.watch.specs.declared.Progress.{Progress}
@@ -18,6 +21,18 @@ Runs m last read shown p h block = Running m last read shown (p .session) h (p .
 pub record Follows (m : Start) (last : Bool) (read shown : List ℕ) (p : Progress) (h block : List ℕ) : Type 0 where
   pub onward : p .going ≡ true → Runs m last read shown p h block
   pub ended : p .going ≡ false → Stopped m read shown
+
+-- the program at its start, on the first rule of a book that was read, and whatever history and block hold
+pub record Begun (book h : List ℕ) (p : Progress) : Type 0 where
+  pub start : Start
+  pub its-book : start .book ≡ book
+  pub first-rule : start .rule ≡ 0
+  pub its-history : start .history ≡ h
+  pub goes : p .going ≡ true
+  pub runs : (block : List ℕ) → Runs start false [] [] p h block
+
+abbrev pub Begins : Table → Progress → Type 0
+Begins t p = (book : List ℕ) → Bytes book → reading book .number ≡ 0 → reading book .table ≡ t → (h : List ℕ) → Begun book h p
 
 -- where a step may begin
 pub record Ready (p : Progress) : Type 0 where

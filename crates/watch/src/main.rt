@@ -9,7 +9,7 @@ ghost use mathlib.Core.Path.{_≡_};
 ghost use mathlib.Core.Bool.{false};
 ghost use Prim.Native.Nat.{_≤_, _<_};
 ghost use lib.ListN.{length};
-ghost use Rattle.watch.specs.Steps.{Ready, ReadyIfGoing, Fed, Steps, Closes};
+ghost use Rattle.watch.specs.Steps.{Ready, ReadyIfGoing, Begins, Fed, Steps, Closes};
 
 // What is kept from one part of the input to the next: the session, the rule's name, the line so far, how many states wait in the block, the tick of
 // the next verdict, and whether the program goes on.
@@ -284,8 +284,10 @@ fn finish(
     write(text, used);
 }
 
-// Watches the first rule of a table, after simplifying it.
-fn watch(t: Table, text: &mut [u8; 131072]) {
+// The first rule of a table that was read, simplified and opened.
+fn begin(t: Table) -> Progress
+    ensures { λ r. ⌜ Begins t r × Ready r ⌝ }
+{
     let simplified = simplify::simplify(t);
     let table = simplified.table;
     let rules = table.rules;
@@ -293,14 +295,19 @@ fn watch(t: Table, text: &mut [u8; 131072]) {
     let opening = Session::open(table, 0);
     let session = opening.session;
     let line = lines::start();
-    let p = Progress {
+    Progress {
         session,
         name: first.name,
         line,
         count: 0,
         tick: 0,
         going: true,
-    };
+    }
+}
+
+// Watches the first rule of a table that was read.
+fn watch(t: Table, text: &mut [u8; 131072]) {
+    let p = begin(t);
     let mut block = [0u32; 1024];
     let mut history = [0u32; 4095];
     let mut scratch = [0u64; 5280];

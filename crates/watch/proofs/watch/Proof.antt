@@ -6,23 +6,12 @@ use Rattle.watch.proofs.watch.Statement.{statement}
 use Rattle.watch.proofs.watch.Tie as tie
 use Rattle.watch.proofs.watch.Reads as reads
 use Rattle.watch.proofs.watch.Lts as lts
-use Rattle.lines.proofs.start.Reads as start-reads
-use Rattle.session.proofs.Session.open.Reads as open-reads
-use Rattle.simplify.proofs.simplify.Reads as simplify-reads
+use Rattle.watch.proofs.begin.Reads as begin-reads
 use Rattle.watch.proofs.finish.Reads as finish-reads
 use Rattle.watch.proofs.run.Reads as run-reads
 
-simplify-requires : tie.Need-simplify-requires
-simplify-requires c κs = search needs
-
-array-copy-out-first : tie.Need-array-copy-out-first
-array-copy-out-first c = search needs
-
-open-requires : tie.Need-open-requires
-open-requires c κs = search needs
-
-start-requires : tie.Need-start-requires
-start-requires c κs = search needs
+begin-requires : tie.Need-begin-requires
+begin-requires c κs = search needs
 
 slice-aggregate-run : tie.Need-slice-aggregate-run
 slice-aggregate-run c = search needs
@@ -50,10 +39,7 @@ pub watch-spec : {M : Type 1} → statement M
 watch-spec =
     tie.close
     (tie.spec
-    simplify-requires
-    array-copy-out-first
-    open-requires
-    start-requires
+    begin-requires
     slice-aggregate-run
     run-requires
     slice-aggregate-finish

@@ -1,0 +1,36 @@
+-- `watch::begin` meets its contract. Assumes nothing.
+use native.Mathlib.Omega.{arith}
+use Rattle.transcript.proofs.Steps.{opened-unseen}
+use Rattle.watch.proofs.Laws.{begins}
+use borrow.Author.Needs.{needs}
+use Rattle.watch.proofs.begin.Statement.{statement}
+use Rattle.watch.proofs.begin.Tie as tie
+use Rattle.watch.proofs.begin.Reads as reads
+use Rattle.watch.proofs.begin.Lts as lts
+use Rattle.lines.proofs.start.Reads as start-reads
+use Rattle.session.proofs.Session.open.Reads as open-reads
+use Rattle.simplify.proofs.simplify.Reads as simplify-reads
+
+simplify-requires : tie.Need-simplify-requires
+simplify-requires c κs = search needs
+
+array-copy-out-first : tie.Need-array-copy-out-first
+array-copy-out-first c = search needs
+
+open-requires : tie.Need-open-requires
+open-requires c κs = search needs
+
+start-requires : tie.Need-start-requires
+start-requires c κs = search needs
+
+returns : tie.Need-returns
+returns c =
+    let s = c .before .before .before .before .before .before .simplify in (
+      rw (c .start .ensures, c .before .before .open .ensures) (begins (c .before .before .before .before .before .before .before .args .t) (s .result) (s .ensures) _),
+      record { room = omega arith; ticks = omega arith; counted = rw (c .before .before .open .ensures, opened-unseen (s .result .table) 0) (omega arith) },
+    )
+
+pub begin-spec : {M : Type 1} → statement M
+begin-spec =
+    tie.close
+    (tie.spec simplify-requires array-copy-out-first open-requires start-requires returns)
