@@ -7,12 +7,12 @@ use Prim.Native.Nat.{ℕ, zero, suc, _+_, _-_, _*_, _≤_, _<_}
 use native.Mathlib.Nat.{add-zero}
 use native.Mathlib.Numerals.{add-one}
 use native.Mathlib.Omega.{arith}
-use borrow.Author.Tests.{eq-eqb, ne-eqb, lt-ltb, le-ltb, le-leb, lt-leb, leb-true}
+use borrow.Author.Tests.{eq-eqb, ne-eqb, lt-ltb, le-ltb, le-leb, lt-leb, leb-true, ltb-false}
 use lib.ListN.{length, take, drop, set, getD, drop-of-length-le, length-drop, length-append, length-set}
 use lib.Dec.{eqb, leb, ltb}
 use lib.Seq.{drop-cons, drop-drop, sets}
 use Rattle.lists.specs.Choice.{pick}
-use Rattle.lists.proofs.Tests.{lt-or-le, true-right}
+use Rattle.lists.proofs.Tests.{lt-or-le, true-right, and-right, true-or-false}
 use Rattle.lists.proofs.Sequences.{sets-append}
 use Rattle.lines.specs.declared.Line.{Line}
 use Rattle.lines.specs.declared.Scan.{Scan}
@@ -342,13 +342,20 @@ module _ {s block₀ block : List ℕ} {at count i k : ℕ} {line l : Line} (r :
       (rw (w, p, r .place), rw w (r .put))
 
   -- the block is full; the part is used up; it has no line end any more; the line is bad
-  pub reached-full : length block ≤ k → Filling-is s block₀ at count line block (record { at = i; line = l; count = k; bad = false })
+  reached-full : length block ≤ k → Filling-is s block₀ at count line block (record { at = i; line = l; count = k; bad = false })
   reached-full h =
       let e : length block₀ - k ≡ 0 = omega (arith, r .size) in
       reached-end l 0 i false (rw (e, fill-full l (drop i s))) (omega arith)
 
-  pub reached-all : length s ≤ i → Filling-is s block₀ at count line block (record { at = i; line = l; count = k; bad = false })
+  reached-all : length s ≤ i → Filling-is s block₀ at count line block (record { at = i; line = l; count = k; bad = false })
   reached-all h = reached-end l 0 i false (rw (drop-of-length-le s h, fill-none (length block₀ - k) l)) (omega arith)
+
+  pub reached-stop : (ltb i (length s) && ltb k (length block)) ≡ false → Filling-is s block₀ at count line block (record { at = i; line = l; count = k; bad = false })
+  reached-stop e =
+      ⊎-elim
+      (λ (b : ltb i (length s) ≡ true). reached-full (ltb-false k (length block) (and-right (ltb i (length s)) (ltb k (length block)) e b)))
+      (λ (b : ltb i (length s) ≡ false). reached-all (ltb-false i (length s) b))
+      (true-or-false (ltb i (length s)))
 
   reached-part : k < length block → q .ended ≡ false → Filling-is s block₀ at count line block (record { at = q .at; line = q .line; count = k; bad = false })
   reached-part h e =
@@ -453,3 +460,13 @@ fill-stops room l [] = record { within = omega arith; fits = omega arith; whole 
 fill-stops zero l (b ∷ bs) = record { within = omega arith; fits = omega arith; whole = λ e h. absurd (omega arith); spare = λ e. absurd (false≢true e); moves = λ h k. absurd (omega arith) }
 fill-stops (suc room) l (b ∷ bs) =
     stops-step (eqb b 10) (readingOf l) room b bs (filling room empty bs) (filling (suc room) (withByte l b) bs) (fill-stops room empty bs) (fill-stops (suc room) (withByte l b) bs)
+
+-- after a line end there is no line so far
+line-gone : (r : Reading) → lineEnded r 1 (stopped empty) .line ≡ empty
+line-gone (state v) = refl
+line-gone bad = refl
+
+pub fill-newline : (room : ℕ) (l : Line) → 0 < room → filling room l (10 ∷ []) .line ≡ empty
+unfolding filling
+fill-newline zero l h = absurd (omega arith)
+fill-newline (suc room) l h = line-gone (readingOf l)

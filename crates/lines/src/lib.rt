@@ -37,15 +37,7 @@ pub fn fill(part: &[u8], at: usize, line: Line, block: &mut [u32], count: usize)
     let mut i = at;
     let mut l = line;
     let mut k = count;
-    while i < part.len() {
-        if k >= block.len() {
-            return Filled {
-                at: i,
-                line: l,
-                count: k,
-                bad: false,
-            };
-        }
+    while (i < part.len()) & (k < block.len()) {
         let q = scan_line(part, i, l);
         let m = q.line;
         if !q.ended {

@@ -1,13 +1,13 @@
 -- The steps of the program, over the effects of the calls that they make. Assumes nothing.
-use Prim.Native.Nat.{ℕ, _+_, _-_, _≤_, _<_, min}
+use Prim.Native.Nat.{ℕ, suc, _+_, _-_, _≤_, _<_, min}
 use native.Mathlib.Omega.{arith}
 use mathlib.Core.Path.{_≡_, refl, sym, ap, subst, _∙_}
 use mathlib.Core.Bool.{Bool, true, false, not, _||_, false≢true, true≢false}
-use mathlib.Core.List.{List, [], _∷_, _++_, map, append-nil}
+use mathlib.Core.List.{List, [], _∷_, _++_, map, append-assoc, append-nil}
 use borrow.Author.Tests.{le-ltb, lt-leb, eq-eqb, ltb-false}
 use lib.Dec.{eqb, ltb}
 use lib.ListN.{length, getD, take, drop, length-append, length-drop, length-map, List·getD-map}
-use lib.Seq.{sets, sets-eq, length-take-le, take-append-seam, length-sets}
+use lib.Seq.{take-add, take-all, sets, sets-eq, length-take-le, take-append-seam, length-sets}
 use Rattle.lists.specs.Choice.{pick}
 use Rattle.lists.specs.Sequence.{ticks}
 use Rattle.lists.specs.Bits.{bitAt}
@@ -27,14 +27,14 @@ use Rattle.mission.specs.Mission.{Start}
 use Rattle.lines.specs.declared.Line.{Line}
 use Rattle.lines.specs.declared.Filled.{Filled}
 use Rattle.lines.specs.Lines.{empty, Filling, filling, filledFrom}
-use Rattle.lines.proofs.Laws.{fill-stops}
+use Rattle.lines.proofs.Laws.{fill-stops, fill-newline}
 use Rattle.rows.specs.Rows.{Put, rowsOf, fitting, badLine, feedLine}
 use Rattle.rows.proofs.Laws.{put-bytes}
 use Rattle.transcript.specs.Printed.{nameOf, ruleName, printed, Running, Stopped}
-use Rattle.transcript.proofs.Steps.{running-begin, few, delay-short, running-lines, stopped-bad, running-fed, stopped-fed, close-accepted, printed-all}
+use Rattle.transcript.proofs.Steps.{running-begin, newline, few, delay-short, running-lines, stopped-bad, running-fed, stopped-fed, close-accepted, printed-all}
 use Rattle.watch.specs.declared.Progress.{Progress}
 use Rattle.watch.specs.declared.Outcome.{Outcome}
-use Rattle.watch.specs.Steps.{Runs, Follows, Begins, Ready, Fed, Steps, Closes}
+use Rattle.watch.specs.Steps.{Runs, Follows, Begins, Ready, Fed, Steps, Closes, Passed, Last, Consumed, Completed}
 
 -- rows that fit, at the start of the text
 fitting-is : (name tick : ℕ) (words : List ℕ) (count : ℕ) → count ≤ 4096 → tick ≤ 4294967295 → fitting name tick words count ≡ rowsOf name tick (ticks (bitAt words) count)
@@ -116,6 +116,7 @@ module _ (p : Progress) (at : ℕ) (h block x o : List ℕ) (a : Answer) (h' x' 
       })
   fed-refused n put = record {
     place = refl;
+    line = refl;
     ready = λ e. absurd (false≢true e);
     right = λ m read shown runs. record {
       onward = λ e. absurd (false≢true e);
@@ -160,6 +161,7 @@ module _ (p : Progress) (at : ℕ) (h block x o : List ℕ) (a : Answer) (h' x' 
       let w = put-bytes put ∙ fitting-is (p .name) (p .tick) o' (a .count) (omega (arith, k, waits, fits)) (omega (arith, ticked, counted)) in
       record {
         place = refl;
+        line = refl;
         ready = λ e. (refl, record { room = omega arith; ticks = omega (arith, k, s, ticked); counted = omega (arith, s, seen-fits n) });
         right = λ m read shown runs. record {
           onward = λ e. (
@@ -241,6 +243,10 @@ module _ (p : Progress) (part : List ℕ) (at : ℕ) (h block : List ℕ) (ready
     runs .1,
   )
 
+  -- a line end alone
+  gone : part ≡ 10 ∷ [] → at ≡ 0 → f .line ≡ empty
+  gone e z = rw (e, z) (fill-newline (length block - p .count) (p .line) (omega (arith, size, ready .room)))
+
   took : at + f .used - at ≡ f .used
   took = omega arith
 
@@ -252,6 +258,7 @@ module _ (p : Progress) (part : List ℕ) (at : ℕ) (h block : List ℕ) (ready
       })
   step-bad text text' used e put = record {
     further = further;
+    newline = gone;
     ready = λ g. absurd (false≢true g);
     right = λ m read shown runs. record {
       onward = λ g. absurd (false≢true g);
@@ -267,6 +274,7 @@ module _ (p : Progress) (part : List ℕ) (at : ℕ) (h block : List ℕ) (ready
       → Steps p part at h block h filledBlock text (record { progress = after; at = at + f .used; used = 0 })
   step-part text e lt = record {
     further = further;
+    newline = gone;
     ready = λ g. record { room = lt; ticks = ready .ticks; counted = ready .counted };
     right = λ m read shown runs. record {
       onward = λ g. rw (took, append-nil shown) (lines-run e m read shown runs);
@@ -281,6 +289,7 @@ module _ (p : Progress) (part : List ℕ) (at : ℕ) (h block : List ℕ) (ready
       let t : r .at - at ≡ f .used = omega (arith, w .place) in
       record {
         further = rw (w .place) further;
+        newline = λ e z. w .line ∙ gone e z;
         ready = λ g. w .ready g .1;
         right = λ m read shown runs.
             rw t (subst (λ (b : Bool). Follows m (not b) (read ++ take (f .used) (drop at part)) (shown ++ take (r .used) text) (r .progress) h' filledBlock)
@@ -339,3 +348,53 @@ module _ (p : Progress) (part : List ℕ) (at : ℕ) (h block : List ℕ) (ready
         → Fed (record { session = p .session; name = p .name; line = y .line; count = y .count; tick = p .tick; going = true }) (y .at) h filledBlock h' text r
         → Steps p part at h block h' filledBlock text r)
         (sym is) (step-fed h' text r))
+
+-- ---- parts of the input
+module _ (first : Progress) (part h₀ block₀ : List ℕ) where
+  -- the bytes before `at` were read
+  abbrev pub Through : ℕ → Progress → List ℕ → List ℕ → Type 0
+  Through at p h block = (m : Start) (read : List ℕ) → Passed m read first h₀ block₀ → Passed m (read ++ take at part) p h block
+
+  pub through-none : Through 0 first h₀ block₀
+  through-none m read q = rw (append-nil read) q
+
+  pub through-step : (at : ℕ) (p : Progress) (h block h' block' text : List ℕ) (o : Outcome) → at < length part → Through at p h block
+      → Steps p part at h block h' block' text o → o .progress .going ≡ true → Through (o .at) (o .progress) h' block'
+  through-step at p h block h' block' text o lt t s g m read q =
+      let w = t m read q in
+      let v = s .right m (read ++ take at part) (w .shown) (w .runs) .onward g in
+      let n : at + (o .at - at) ≡ o .at = omega (arith, s .further lt .0) in
+      let e : take at part ++ take (o .at - at) (drop at part) ≡ take (o .at) part = sym (take-add at (o .at - at) part) ∙ rw n in
+      record { shown = _; runs = rw (append-assoc read (take at part) (take (o .at - at) (drop at part)), e) at v }
+
+  pub through-all : (at : ℕ) (p : Progress) (h block : List ℕ) → length part ≤ at → Through at p h block
+      → (m : Start) (read : List ℕ) → Passed m read first h₀ block₀ → p .going ≡ true → Passed m (read ++ part) p h block
+  through-all at p h block le t m read q g = rw (take-all at part le) at (t m read q)
+
+-- ---- the line end that the last line may lack
+module _ (p : Progress) (h block : List ℕ) where
+  pub complete-step : (h' block' text : List ℕ) (o : Outcome) → (p .line .digits ≡ 0 → ⊥) → Steps p (10 ∷ []) 0 h block h' block' text o
+      → Completed p h block h' block' (o .progress)
+  complete-step h' block' text o n s =
+      let k = s .further (omega arith) in
+      let w : o .at - 0 ≡ suc 0 = omega (arith, k .0, k .1) in
+      record {
+        ready = s .ready;
+        whole = ap (λ (l : Line). l .digits) (s .newline refl refl);
+        right = λ m read q g. record {
+          input = read ++ (10 ∷ []);
+          same = newline m (q .runs .0) n;
+          passed = record { shown = _; runs = rw w at (s .right m read (q .shown) (q .runs) .onward g) };
+        };
+      }
+
+  pub complete-ended : (h' block' : List ℕ) (r : Progress) → r .going ≡ false → r .line .digits ≡ 0 → Completed p h block h' block' r
+  complete-ended h' block' r g e = record {
+    ready = λ f. absurd (false≢true (sym g ∙ f));
+    whole = e;
+    right = λ m read q f. absurd (false≢true (sym g ∙ f));
+  }
+
+-- the program has ended
+pub consumed-ended : (p : Progress) (part h block h' block' : List ℕ) (r : Progress) → r .going ≡ false → Consumed p part h block h' block' r
+consumed-ended p part h block h' block' r g = record { ready = λ f. absurd (false≢true (sym g ∙ f)); right = λ m read q f. absurd (false≢true (sym g ∙ f)) }

@@ -2,13 +2,14 @@
 use Prim.Native.Nat.{ℕ, _-_, _≤_, _<_}
 use mathlib.Core.Path.{_≡_}
 use mathlib.Core.Bool.{Bool, true, false, not}
-use mathlib.Core.List.{List, [], _++_}
+use mathlib.Core.List.{List, [], _∷_, _++_}
 use lib.Dec.{eqb}
 use lib.ListN.{length, take, drop}
 use Rattle.table.specs.declared.Table.{Table}
 use Rattle.book.specs.Entries.{Bytes}
 use Rattle.book.specs.Reading.{reading}
 use Rattle.mission.specs.Mission.{Start}
+use Rattle.lines.specs.Lines.{empty}
 use Rattle.transcript.specs.Printed.{ruleName, printed, Running, Stopped}
 use Rattle.watch.specs.declared.Progress.{Progress}
 use Rattle.watch.specs.declared.Outcome.{Outcome}
@@ -43,6 +44,7 @@ pub record Ready (p : Progress) : Type 0 where
 -- a feed of the states that wait: h and block are what history and block held, h' and text what history and text hold then
 pub record Fed (p : Progress) (at : ℕ) (h block h' text : List ℕ) (r : Outcome) : Type 0 where
   pub place : r .at ≡ at
+  pub line : r .progress .line ≡ p .line
   pub ready : r .progress .going ≡ true → (r .progress .count ≡ 0) × Ready (r .progress)
   pub right : (m : Start) (read shown : List ℕ) → Runs m false read shown p h block
       → Follows m (not (eqb (p .count) 1024)) read (shown ++ take (r .used) text) (r .progress) h' block
@@ -50,6 +52,8 @@ pub record Fed (p : Progress) (at : ℕ) (h block h' text : List ℕ) (r : Outco
 -- a step over bytes of a part, from a place on
 pub record Steps (p : Progress) (part : List ℕ) (at : ℕ) (h block h' block' text : List ℕ) (r : Outcome) : Type 0 where
   pub further : at < length part → (at < r .at) × (r .at ≤ length part)
+  -- after a line end alone there is no line so far
+  pub newline : part ≡ 10 ∷ [] → at ≡ 0 → r .progress .line ≡ empty
   pub ready : r .progress .going ≡ true → Ready (r .progress)
   pub right : (m : Start) (read shown : List ℕ) → Runs m false read shown p h block
       → Follows m false (read ++ take (r .at - at) (drop at part)) (shown ++ take (r .used) text) (r .progress) h' block'
@@ -59,6 +63,28 @@ abbrev pub Closes : Progress → List ℕ → List ℕ → ℕ → Type 0
 Closes p h text used =
     (m : Start) (last : Bool) (read shown block : List ℕ) → Runs m last read shown p h block → p .line .digits ≡ 0 → p .count ≡ 0
     → printed m read ≡ shown ++ take used text
+
+-- the program at work after `read`, whatever it has shown
+pub record Passed (m : Start) (read : List ℕ) (p : Progress) (h block : List ℕ) : Type 0 where
+  pub shown : List ℕ
+  pub runs : Runs m false read shown p h block
+
+-- a whole part was read, unless the program has ended
+pub record Consumed (p : Progress) (part h block h' block' : List ℕ) (r : Progress) : Type 0 where
+  pub ready : r .going ≡ true → Ready r
+  pub right : (m : Start) (read : List ℕ) → Passed m read p h block → r .going ≡ true → Passed m (read ++ part) r h' block'
+
+-- the same for an input for which as much is printed
+pub record Last (m : Start) (read : List ℕ) (p : Progress) (h block : List ℕ) : Type 0 where
+  pub input : List ℕ
+  pub same : printed m read ≡ printed m input
+  pub passed : Passed m input p h block
+
+-- the line end that the last line may lack was read, unless the program has ended: no line is left, and as much is printed
+pub record Completed (p : Progress) (h block h' block' : List ℕ) (r : Progress) : Type 0 where
+  pub ready : r .going ≡ true → Ready r
+  pub whole : r .line .digits ≡ 0
+  pub right : (m : Start) (read : List ℕ) → Passed m read p h block → r .going ≡ true → Last m read r h' block'
 
 abbrev pub ReadyIfGoing : Progress → Type 0
 ReadyIfGoing p = p .going ≡ true → Ready p

@@ -9,7 +9,7 @@ ghost use mathlib.Core.Path.{_≡_};
 ghost use mathlib.Core.Bool.{false};
 ghost use Prim.Native.Nat.{_≤_, _<_};
 ghost use lib.ListN.{length};
-ghost use Rattle.watch.specs.Steps.{Ready, ReadyIfGoing, Begins, Fed, Steps, Closes};
+ghost use Rattle.watch.specs.Steps.{Ready, ReadyIfGoing, Begins, Fed, Steps, Closes, Consumed, Completed};
 
 // What is kept from one part of the input to the next: the session, the rule's name, the line so far, how many states wait in the block, the tick of
 // the next verdict, and whether the program goes on.
@@ -160,7 +160,7 @@ fn write(text: &[u8], used: usize) -> bool {
 
 // The same, and the program ends.
 fn ended(p: Progress) -> Progress
-    ensures { λ r. ⌜ r .going ≡ false ⌝ }
+    ensures { λ r. ⌜ (r .going ≡ false) × (r .line ≡ p .line) ⌝ }
 {
     let session = p.session;
     let line = p.line;
@@ -185,7 +185,7 @@ fn consume(
     text: &mut [u8; 131072],
 ) -> Progress
     requires { ⌜ Ready first × (length (now block) ≡ 1024) ⌝ }
-    ensures { λ r. ⌜ ReadyIfGoing r ⌝ }
+    ensures { λ r. ⌜ Consumed first (now (part .entry)) (now (history .entry)) (now (block .entry)) (now (history .exit)) (now (block .exit)) r ⌝ }
 {
     let mut p = first;
     let mut at = 0;
@@ -248,13 +248,18 @@ fn last_line(
     text: &mut [u8; 131072],
 ) -> Progress
     requires { ⌜ Ready p × (length (now block) ≡ 1024) ⌝ }
-    ensures { λ r. ⌜ ReadyIfGoing r ⌝ }
+    ensures { λ r. ⌜ Completed p (now (history .entry)) (now (block .entry)) (now (history .exit)) (now (block .exit)) r ⌝ }
 {
     let line = p.line;
     if line.digits == 0 {
         return p;
     }
-    consume(p, b"\n", block, history, scratch, out, text)
+    let o = step(p, b"\n", 0, block, history, scratch, out, text);
+    let next = o.progress;
+    if write(text, o.used) {
+        return next;
+    }
+    ended(next)
 }
 
 // The end of the input: the last line, the last block, and the close.

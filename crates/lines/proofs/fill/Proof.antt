@@ -1,11 +1,13 @@
 -- `lines::fill` meets its contract. The invariant: some lines were read, and the rest is still to be read. Assumes nothing.
-use Prim.Native.Nat.{_-_}
+use Prim.Native.Nat.{_-_, _<_}
 use native.Mathlib.Omega.{arith}
 use mathlib.Core.Path.{sym, _∙_}
 use borrow.Author.Needs.{needs}
-use borrow.Author.Tests.{not-true, not-false}
+use borrow.Author.Tests.{not-true, not-false, ltb-true}
+use lib.Dec.{ltb}
+use Rattle.lists.proofs.Tests.{true-left, true-right}
 use lib.ListN.{length}
-use Rattle.lines.proofs.Laws.{Reached, reached-none, reached-full, reached-all, more-read, part-read, bad-read, further, value-fits}
+use Rattle.lines.proofs.Laws.{Reached, reached-none, reached-stop, more-read, part-read, bad-read, further, value-fits}
 use Rattle.lines.proofs.fill.Statement.{statement}
 use Rattle.lines.proofs.fill.Tie as tie
 use Rattle.lines.proofs.fill.Reads as reads
@@ -23,22 +25,25 @@ abbrev μ-loop : tie.MeasureT-loop
 loop-holds : tie.Need-loop-holds Inv-loop μ-loop
 loop-holds c = reached-none _ _ _ _ _
 
-same-length : tie.Need-same-length Inv-loop μ-loop
-same-length c = search needs
-
-returns : tie.Need-returns Inv-loop μ-loop
-returns c = reached-full (c .before .before .loop .inv) (c .if1 .taken)
+-- there is a byte to read, and room in the block
+tests : (c : tie.After-scan-line Inv-loop μ-loop)
+    → (c .before .before .loop .i < length (c .before .before .before .before .before .args .part .now)) × (c .before .before .loop .k < length (c .before .before .loop .block))
+tests c =
+    let p = c .before .before .loop in
+    let a = ltb (p .i) (length (c .before .before .before .before .before .args .part .now)) in
+    let b = ltb (p .k) (length (p .block)) in
+    (ltb-true _ _ (true-left a b (c .before .loop-test .taken)), ltb-true _ _ (true-right a b (c .before .loop-test .taken)))
 
 scan-line-requires : tie.Need-scan-line-requires Inv-loop μ-loop
 scan-line-requires c κs = search needs
 
-same-length-2 : tie.Need-same-length-2 Inv-loop μ-loop
-same-length-2 c = search needs
+same-length : tie.Need-same-length Inv-loop μ-loop
+same-length c = search needs
 
-returns-2 : tie.Need-returns-2 Inv-loop μ-loop
-returns-2 c =
+returns : tie.Need-returns Inv-loop μ-loop
+returns c =
     let q = c .before .before .before in
-    part-read (q .before .before .before .loop .inv) (q .scan-line .result) (q .scan-line .ensures) (q .before .if1 .left) (not-true _ (c .if2 .taken))
+    part-read (q .before .before .loop .inv) (q .scan-line .result) (q .scan-line .ensures) (tests q .1) (not-true _ (c .if1 .taken))
 
 is-state-requires : tie.Need-is-state-requires Inv-loop μ-loop
 is-state-requires c κs = search needs
@@ -46,30 +51,30 @@ is-state-requires c κs = search needs
 start-requires : tie.Need-start-requires Inv-loop μ-loop
 start-requires c κs = search needs
 
-same-length-3 : tie.Need-same-length-3 Inv-loop μ-loop
-same-length-3 c = search needs
+same-length-2 : tie.Need-same-length-2 Inv-loop μ-loop
+same-length-2 c = search needs
 
-returns-3 : tie.Need-returns-3 Inv-loop μ-loop
-returns-3 c =
+returns-2 : tie.Need-returns-2 Inv-loop μ-loop
+returns-2 c =
     let n = c .before .before in
     let q = n .before .before .before .before in
     rw (c .start .ensures)
-    (bad-read (q .before .before .before .loop .inv) (q .scan-line .result) (q .scan-line .ensures) (q .before .if1 .left) (not-false _ (n .before .if2 .left))
-    (sym (n .is-state .ensures) ∙ not-true _ (c .before .if3 .taken)))
+    (bad-read (q .before .before .loop .inv) (q .scan-line .result) (q .scan-line .ensures) (tests q .1) (not-false _ (n .before .if1 .left))
+    (sym (n .is-state .ensures) ∙ not-true _ (c .before .if2 .taken)))
 
 cast-block : tie.Need-cast-block Inv-loop μ-loop
 cast-block c =
     let n = c .before .before in
-    search (needs, value-fits (n .before .before .before .before .scan-line .result .line) (sym (n .is-state .ensures) ∙ not-false _ (c .before .if3 .left)))
+    search (needs, value-fits (n .before .before .before .before .scan-line .result .line) (sym (n .is-state .ensures) ∙ not-false _ (c .before .if2 .left)))
 
 mul-block : tie.Need-mul-block Inv-loop μ-loop
-mul-block c = search needs
+mul-block c = search (needs, tests (c .before .before .before .before .before .before) .1)
 
 slice-write-block : tie.Need-slice-write-block Inv-loop μ-loop
-slice-write-block c = search needs
+slice-write-block c = search (needs, tests (c .before .before .before .before .before .before) .1)
 
 add-k : tie.Need-add-k Inv-loop μ-loop
-add-k c = search needs
+add-k c = search (needs, tests (c .before .before .before .before .before .before) .1)
 
 start-requires-2 : tie.Need-start-requires-2 Inv-loop μ-loop
 start-requires-2 c κs = search needs
@@ -78,22 +83,22 @@ loop-less : tie.Need-loop-less Inv-loop μ-loop
 loop-less c =
     let n = c .before .before .before in
     let q = n .before .before .before .before in
-    further (q .before .before .before .loop .inv) (q .scan-line .result) (q .scan-line .ensures) (q .before .if1 .left) (not-false _ (n .before .if2 .left))
-    (q .before .before .loop-test .taken)
+    further (q .before .before .loop .inv) (q .scan-line .result) (q .scan-line .ensures) (tests q .1) (not-false _ (n .before .if1 .left))
+    (tests q .0)
 
 loop-again : tie.Need-loop-again Inv-loop μ-loop
 loop-again c =
     let n = c .before .before .before in
     let q = n .before .before .before .before in
     rw (c .start2 .ensures)
-    (more-read (q .before .before .before .loop .inv) (q .scan-line .result) (q .scan-line .ensures) (q .before .if1 .left) (not-false _ (n .before .if2 .left))
-    (sym (n .is-state .ensures) ∙ not-false _ (c .before .before .if3 .left)))
+    (more-read (q .before .before .loop .inv) (q .scan-line .result) (q .scan-line .ensures) (tests q .1) (not-false _ (n .before .if1 .left))
+    (sym (n .is-state .ensures) ∙ not-false _ (c .before .before .if2 .left)))
 
-same-length-4 : tie.Need-same-length-4 Inv-loop μ-loop
-same-length-4 c = search needs
+same-length-3 : tie.Need-same-length-3 Inv-loop μ-loop
+same-length-3 c = search needs
 
-returns-4 : tie.Need-returns-4 Inv-loop μ-loop
-returns-4 c = reached-all (c .before .loop .inv) (c .loop-test .left)
+returns-3 : tie.Need-returns-3 Inv-loop μ-loop
+returns-3 c = reached-stop (c .before .loop .inv) (c .loop-test .left)
 
 pub fill-spec : {M : Type 1} → statement M
 fill-spec =
@@ -102,15 +107,13 @@ fill-spec =
     Inv-loop
     μ-loop
     loop-holds
+    scan-line-requires
     same-length
     returns
-    scan-line-requires
-    same-length-2
-    returns-2
     is-state-requires
     start-requires
-    same-length-3
-    returns-3
+    same-length-2
+    returns-2
     cast-block
     mul-block
     slice-write-block
@@ -118,5 +121,5 @@ fill-spec =
     start-requires-2
     loop-less
     loop-again
-    same-length-4
-    returns-4)
+    same-length-3
+    returns-3)

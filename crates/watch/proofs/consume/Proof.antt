@@ -2,11 +2,11 @@
 use Prim.Native.Nat.{_-_, _≤_}
 use native.Mathlib.Omega.{arith}
 use mathlib.Core.Path.{_≡_, sym, _∙_}
-use mathlib.Core.Bool.{false≢true}
-use borrow.Author.Tests.{not-false}
+use borrow.Author.Tests.{not-true, not-false}
 use borrow.Author.Needs.{needs}
 use lib.ListN.{length}
 use Rattle.watch.specs.Steps.{Ready}
+use Rattle.watch.proofs.Laws.{Through, through-none, through-step, through-all, consumed-ended}
 use Rattle.watch.proofs.consume.Statement.{statement}
 use Rattle.watch.proofs.consume.Tie as tie
 use Rattle.watch.proofs.consume.Reads as reads
@@ -16,13 +16,14 @@ use Rattle.watch.proofs.step.Reads as step-reads
 use Rattle.watch.proofs.write.Reads as write-reads
 
 abbrev Inv-loop : tie.InvT-loop
-Inv-loop part block₀ history₀ scratch₀ out₀ text₀ p₀ at₀ block history scratch out text p at = Ready p × (length block ≡ 1024)
+Inv-loop part block₀ history₀ scratch₀ out₀ text₀ p₀ at₀ block history scratch out text p at =
+    Ready p × (length block ≡ 1024) × Through p₀ part history₀ block₀ at p history block
 
 abbrev μ-loop : tie.MeasureT-loop
 μ-loop part block₀ history₀ scratch₀ out₀ text₀ p₀ at₀ block history scratch out text p at = length part - at
 
 loop-holds : tie.Need-loop-holds Inv-loop μ-loop
-loop-holds c = search needs
+loop-holds c = (c .before .before .pre .0, c .before .before .pre .1, through-none (c .before .before .args .first) (c .before .before .args .part .now) (c .before .before .args .history .now) (c .before .before .args .block .now))
 
 step-requires : tie.Need-step-requires Inv-loop μ-loop
 step-requires c κs = search needs
@@ -41,13 +42,13 @@ same-length : tie.Need-same-length Inv-loop μ-loop
 same-length c = kept (c .before .before .before .before .before .before .before .before) ∙ sym (c .before .before .before .before .before .before .before .before .before .before .before .before .before .before .before .before .before .before .pre .1)
 
 returns : tie.Need-returns Inv-loop μ-loop
-returns c e = absurd (false≢true (sym (c .ended .ensures) ∙ e))
+returns c = consumed-ended _ _ _ _ _ _ _ (c .ended .ensures .0)
 
 same-length-2 : tie.Need-same-length-2 Inv-loop μ-loop
 same-length-2 c = kept (c .before .before .before .before .before .before .before .before .before) ∙ sym (c .before .before .before .before .before .before .before .before .before .before .before .before .before .before .before .before .before .before .before .pre .1)
 
 returns-2 : tie.Need-returns-2 Inv-loop μ-loop
-returns-2 c = c .before .before .before .before .before .before .before .before .before .step .ensures .ready
+returns-2 c = consumed-ended _ _ _ _ _ _ _ (not-true _ (c .if2 .taken))
 
 loop-less : tie.Need-loop-less Inv-loop μ-loop
 loop-less c =
@@ -55,13 +56,21 @@ loop-less c =
     omega (arith, w .0, w .1)
 
 loop-again : tie.Need-loop-again Inv-loop μ-loop
-loop-again c = (c .before .before .before .before .before .before .before .before .before .step .ensures .ready (not-false _ (c .if2 .left)), kept (c .before .before .before .before .before .before .before .before .before))
+loop-again c =
+    let g = not-false _ (c .if2 .left) in
+    let s = c .before .before .before .before .before .before .before .before .before .step in
+    let q = c .before .before .before .before .before .before .before .before .before .before .before .before .before .before .before .before .loop in
+    let a = c .before .before .before .before .before .before .before .before .before .before .before .before .before .before .before .before .before .before .before .args in
+    (s .ensures .ready g, kept (c .before .before .before .before .before .before .before .before .before), through-step (a .first) (a .part .now) (a .history .now) (a .block .now) (q .at) (q .p) (q .history) (q .block) _ _ _ (s .result) (c .before .before .before .before .before .before .before .before .before .before .before .before .before .before .before .loop-test .taken) (q .inv .2) (s .ensures) g)
 
 same-length-3 : tie.Need-same-length-3 Inv-loop μ-loop
 same-length-3 c = c .before .loop .inv .1 ∙ sym (c .before .before .before .before .pre .1)
 
 returns-3 : tie.Need-returns-3 Inv-loop μ-loop
-returns-3 c = search needs
+returns-3 c =
+    let q = c .before .loop in
+    let a = c .before .before .before .before .args in
+    record { ready = λ g. q .inv .0; right = through-all (a .first) (a .part .now) (a .history .now) (a .block .now) (q .at) (q .p) (q .history) (q .block) (c .loop-test .left) (q .inv .2) }
 
 pub consume-spec : {M : Type 1} → statement M
 consume-spec =

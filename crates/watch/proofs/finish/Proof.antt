@@ -28,7 +28,7 @@ kept c = search (needs, c .before .before .before .before .before .before .befor
 
 feed-requires : tie.Need-feed-requires
 feed-requires c κs =
-    let r = c .before .before .before .before .before .before .before .before .before .last-line .ensures (not-false _ (c .before .before .before .before .before .if1 .left)) in
+    let r = c .before .before .before .before .before .before .before .before .before .last-line .ensures .ready (not-false _ (c .before .before .before .before .before .if1 .left)) in
     (omega (arith, r .room), r .ticks, r .counted, kept (c .before .before .before .before .before .before .before .before .before))
 
 write-requires : tie.Need-write-requires

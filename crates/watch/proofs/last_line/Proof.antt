@@ -1,0 +1,59 @@
+-- `watch::last_line` meets its contract. Assumes nothing.
+use mathlib.Core.Path.{refl, ap, _∙_}
+use Rattle.lines.specs.declared.Line.{Line}
+use Rattle.watch.proofs.Laws.{complete-step, complete-ended}
+use borrow.Author.Needs.{needs}
+use Rattle.watch.proofs.last_line.Statement.{statement}
+use Rattle.watch.proofs.last_line.Tie as tie
+use Rattle.watch.proofs.last_line.Reads as reads
+use Rattle.watch.proofs.last_line.Lts as lts
+use Rattle.watch.proofs.ended.Reads as ended-reads
+use Rattle.watch.proofs.step.Reads as step-reads
+use Rattle.watch.proofs.write.Reads as write-reads
+
+returns : tie.Need-returns
+returns c = search needs
+
+slice-aggregate-step : tie.Need-slice-aggregate-step
+slice-aggregate-step c = search needs
+
+step-requires : tie.Need-step-requires
+step-requires c κs = search needs
+
+write-requires : tie.Need-write-requires
+write-requires c κs = search needs
+
+same-length : tie.Need-same-length
+same-length c = search needs
+
+returns-2 : tie.Need-returns-2
+returns-2 c =
+    let s = c .before .before .before .before .before .before .before .step in
+    let a = c .before .before .before .before .before .before .before .before .before .before .before .before .before .before .before .before .before .before .args in
+    complete-step (a .p) (a .history .now) (a .block .now) _ _ _ (s .result) (c .before .before .before .before .before .before .before .before .before .before .before .before .before .before .if1 .left) (s .ensures)
+
+ended-requires : tie.Need-ended-requires
+ended-requires c κs = search needs
+
+same-length-2 : tie.Need-same-length-2
+same-length-2 c = search needs
+
+returns-3 : tie.Need-returns-3
+returns-3 c =
+    let s = c .before .before .before .before .before .before .before .before .step in
+    let a = c .before .before .before .before .before .before .before .before .before .before .before .before .before .before .before .before .before .before .before .args in
+    complete-ended (a .p) (a .history .now) (a .block .now) _ _ (c .ended .result) (c .ended .ensures .0) (ap (λ (l : Line). l .digits) (c .ended .ensures .1 ∙ s .ensures .newline refl refl))
+
+pub last-line-spec : {M : Type 1} → statement M
+last-line-spec =
+    tie.close
+    (tie.spec
+    returns
+    slice-aggregate-step
+    step-requires
+    write-requires
+    same-length
+    returns-2
+    ended-requires
+    same-length-2
+    returns-3)
