@@ -4,6 +4,7 @@ pub mod growth;
 pub mod markdown;
 pub mod memory;
 pub mod plot;
+pub mod program;
 pub mod runs;
 pub mod stream;
 pub mod whole;

@@ -1,11 +1,12 @@
 //! The benchmarks: prints the tables of docs/BENCHMARKS.md. An argument names the file that the plot is written to.
-use juntreak_tests::bench::{growth, memory, plot, stream, whole};
+use juntreak_tests::bench::{growth, memory, plot, program, stream, whole};
 
 fn main() {
     whole::run();
     let speeds = stream::run();
     growth::run();
     memory::run();
+    program::run();
     if let Some(file) = std::env::args().nth(1) {
         std::fs::write(&file, plot::svg(&speeds)).expect("the plot cannot be written");
     }
