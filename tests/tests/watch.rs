@@ -166,6 +166,7 @@ fn simple_delay(book: &[u8]) -> usize {
     assert_eq!(library::simplify(&mut table), 0);
     let (number, delay) = library::delay(&table, 0);
     assert_eq!(number, 0);
+    assert!(delay <= model::read(book).unwrap().rule_delay(0));
     delay as usize
 }
 

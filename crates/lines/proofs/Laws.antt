@@ -17,7 +17,7 @@ use Rattle.lists.proofs.Sequences.{sets-append}
 use Rattle.lines.specs.declared.Line.{Line}
 use Rattle.lines.specs.declared.Scan.{Scan}
 use Rattle.lines.specs.declared.Filled.{Filled}
-use Rattle.lines.specs.Lines.{Reading, state, bad, lastLine, linesFrom, allDigits, valueFrom, lineAfter, lineOf, readings, empty, badLine, withByte, isState, readingOf, readingsFrom, scanned, Filling, stopped, after, lineEnded, filling, filledFrom}
+use Rattle.lines.specs.Lines.{Reading, state, bad, lastLine, linesFrom, allDigits, valueFrom, lineAfter, lineOf, readings, empty, noState, withByte, isState, readingOf, readingsFrom, scanned, Filling, noneRead, after, lineEnded, filling, filledFrom}
 
 pick-same : {A : Type 0} {a : A} (t : Bool) → pick t a a ≡ a
 pick-same true = refl
@@ -46,7 +46,7 @@ abbrev bytewise : Line → List ℕ → Line
 bytewise l [] = l
 bytewise l (b ∷ bs) = bytewise (withByte l b) bs
 
-bad-stays : (bs : List ℕ) → readingOf (bytewise badLine bs) ≡ bad
+bad-stays : (bs : List ℕ) → readingOf (bytewise noState bs) ≡ bad
 unfolding withByte
 bad-stays [] = refl
 bad-stays (b ∷ bs) = bad-stays bs
@@ -71,29 +71,29 @@ unfolding lineAfter
 not-long n v bs h = rw (lt-leb (n + length bs) 10 h, pick-same (leb 1 (n + length bs)))
 
 module _ (l : Line) (b : ℕ) where
-  with-long : 10 ≤ l .digits → withByte l b ≡ badLine
+  with-long : 10 ≤ l .digits → withByte l b ≡ noState
   unfolding withByte
   with-long h = rw (le-ltb (l .digits) 10 h)
 
-  with-low : b < 48 → withByte l b ≡ badLine
+  with-low : b < 48 → withByte l b ≡ noState
   unfolding withByte
   with-low h = rw (lt-leb 48 b h) (pick-same (ltb (l .digits) 10))
 
-  with-high : 57 < b → withByte l b ≡ badLine
+  with-high : 57 < b → withByte l b ≡ noState
   unfolding withByte
-  with-high h = rw (lt-leb b 57 h, pick-same {a = badLine} (leb 48 b)) (pick-same (ltb (l .digits) 10))
+  with-high h = rw (lt-leb b 57 h, pick-same {a = noState} (leb 48 b)) (pick-same (ltb (l .digits) 10))
 
-  with-large : 4294967295 < l .value → withByte l b ≡ badLine
+  with-large : 4294967295 < l .value → withByte l b ≡ noState
   unfolding withByte
   with-large h =
-      rw (lt-leb (l .value) 4294967295 h, pick-same {a = badLine} (leb b 57), pick-same {a = badLine} (leb 48 b)) (pick-same (ltb (l .digits) 10))
+      rw (lt-leb (l .value) 4294967295 h, pick-same {a = noState} (leb b 57), pick-same {a = noState} (leb 48 b)) (pick-same (ltb (l .digits) 10))
 
   with-digit : l .digits < 10 → 48 ≤ b → b ≤ 57 → l .value ≤ 4294967295 → withByte l b ≡ record { digits = l .digits + 1; value = l .value * 10 + (b - 48) }
   unfolding withByte
   with-digit h i j k = rw (lt-ltb (l .digits) 10 h, le-leb 48 b i, le-leb b 57 j, le-leb (l .value) 4294967295 k)
 
   -- a byte that makes the line bad
-  run-bad : (bs : List ℕ) → withByte l b ≡ badLine → lineAfter (l .digits) (l .value) (b ∷ bs) ≡ bad
+  run-bad : (bs : List ℕ) → withByte l b ≡ noState → lineAfter (l .digits) (l .value) (b ∷ bs) ≡ bad
       → readingOf (bytewise l (b ∷ bs)) ≡ lineAfter (l .digits) (l .value) (b ∷ bs)
   run-bad bs e w = ap (λ (m : Line). readingOf (bytewise m bs)) e ∙ bad-stays bs ∙ sym w
 
@@ -156,7 +156,7 @@ pick-digits false u v w l m h k = k
 
 begun : (l : Line) (b : ℕ) → 0 < withByte l b .digits
 unfolding withByte
-begun l b = pick-digits (ltb (l .digits) 10) (leb 48 b) (leb b 57) (leb (l .value) 4294967295) _ badLine (omega arith) (omega arith)
+begun l b = pick-digits (ltb (l .digits) 10) (leb 48 b) (leb b 57) (leb (l .value) 4294967295) _ noState (omega arith) (omega arith)
 
 still : (l : Line) (bs : List ℕ) → 0 < l .digits → 0 < bytewise l bs .digits
 still l [] h = h
@@ -261,12 +261,12 @@ fill-end room (b ∷ bs) at l e =
     end-step (eqb b 10) room b at bs l (λ w. (scan-within bs (at + 1) (withByte l b) w .0, fill-end room bs (at + 1) (withByte l b) w)) _ refl e
 
 -- no room, or no byte
-fill-full : (l : Line) (xs : List ℕ) → filling 0 l xs ≡ stopped l
+fill-full : (l : Line) (xs : List ℕ) → filling 0 l xs ≡ noneRead l
 unfolding filling
 fill-full l [] = refl
 fill-full l (b ∷ bs) = refl
 
-fill-none : (room : ℕ) (l : Line) → filling room l [] ≡ stopped l
+fill-none : (room : ℕ) (l : Line) → filling room l [] ≡ noneRead l
 unfolding filling
 fill-none room l = refl
 
@@ -462,7 +462,7 @@ fill-stops (suc room) l (b ∷ bs) =
     stops-step (eqb b 10) (readingOf l) room b bs (filling room empty bs) (filling (suc room) (withByte l b) bs) (fill-stops room empty bs) (fill-stops (suc room) (withByte l b) bs)
 
 -- after a line end there is no line so far
-line-gone : (r : Reading) → lineEnded r 1 (stopped empty) .line ≡ empty
+line-gone : (r : Reading) → lineEnded r 1 (noneRead empty) .line ≡ empty
 line-gone (state v) = refl
 line-gone bad = refl
 

@@ -51,9 +51,9 @@ readings text = map lineOf (linesFrom [] text)
 abbrev pub empty : Line
 empty = record { digits = 0; value = 0 }
 
--- a line that is bad, whatever follows
-abbrev pub badLine : Line
-badLine = record { digits = 11; value = 0 }
+-- a line that is no state, whatever follows
+abbrev pub noState : Line
+noState = record { digits = 11; value = 0 }
 
 -- a line with one byte more: a digit, the tenth at most, after a value that is a state; else it is bad
 unfoldable pub withByte : Line → ℕ → Line
@@ -61,10 +61,10 @@ withByte l b =
     pick (ltb (l .digits) 10)
     (pick (leb 48 b)
     (pick (leb b 57)
-    (pick (leb (l .value) 4294967295) (record { digits = l .digits + 1; value = l .value * 10 + (b - 48) }) badLine)
-    badLine)
-    badLine)
-    badLine
+    (pick (leb (l .value) 4294967295) (record { digits = l .digits + 1; value = l .value * 10 + (b - 48) }) noState)
+    noState)
+    noState)
+    noState
 
 -- a line that ends is a state, if it has 1 to 10 digits whose value is one
 abbrev pub isState : Line → Bool
@@ -92,8 +92,8 @@ pub record Filling : Type 0 where
   pub used : ℕ
   pub isBad : Bool
 
-abbrev pub stopped : Line → Filling
-stopped l = record { states = []; line = l; used = 0; isBad = false }
+abbrev pub noneRead : Line → Filling
+noneRead l = record { states = []; line = l; used = 0; isBad = false }
 
 -- after states and bytes that were read before
 abbrev pub after : List ℕ → ℕ → Filling → Filling
@@ -105,8 +105,8 @@ lineEnded (state v) n f = after (v ∷ []) n f
 lineEnded bad n f = record { states = []; line = empty; used = n; isBad = true }
 
 unfoldable pub filling : ℕ → Line → List ℕ → Filling
-filling room l [] = stopped l
-filling zero l (b ∷ bs) = stopped l
+filling room l [] = noneRead l
+filling zero l (b ∷ bs) = noneRead l
 filling (suc room) l (b ∷ bs) = pick (eqb b 10) (lineEnded (readingOf l) 1 (filling room empty bs)) (after [] 1 (filling (suc room) (withByte l b) bs))
 
 -- the answer of `fill`, which began at place `at` of its part and place `count` of its block

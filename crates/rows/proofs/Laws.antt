@@ -111,17 +111,6 @@ decimal-last n h =
     sym (decimal-is n (suc k) (places-20 n (suc k) h v) v) ∙ rw (le-ltb n 10 le, glyph-is (n % 10) (omega arith)))
     (lt-or-le n 10)
 
-pub length-decimal : (m n : ℕ) → 1 ≤ m → m ≤ 20 → n < 10 ^ m → length (decimal n) ≤ m
-unfolding decimal
-length-decimal m n one most h =
-    let p : 10 ^ m ≤ 10 ^ 20 = pow-le-pow-right {n = 10} (omega arith) {i = m} {j = 20} most in
-    let k = placesFrom 19 1 n in
-    rw (length-digits k n) (places-most m n k one h (places-found 19 1 n (omega arith) (λ l. absurd (omega arith)) (omega arith)))
-  where
-    length-digits : (k n : ℕ) → length (digits 10 k n) ≡ k
-    length-digits zero n = refl
-    length-digits (suc k) n = rw (length-append (digits 10 k (n / 10)) (glyph (n % 10) ∷ []), length-digits k (n / 10)) (omega arith)
-
 -- ---- a row in two parts
 row-is : (name : List ℕ) (tick v : ℕ) → tick < 2 ^ 64 → row name tick v ≡ ended (front name tick) tick v
 unfolding row

@@ -8,8 +8,7 @@ ghost use Rattle.lists.specs.Bits.{bitAt, digit};
 ghost use Rattle.lists.specs.Sequence.{ticks};
 ghost use Rattle.rows.specs.Rows.{Put, decimal, rowsFrom, ended, Fronted, fitting, bookLine, badLine, feedLine};
 
-// The bytes of a text: 4,096 rows, each of 32 bytes at most.
-pub const TEXT: usize = 131072;
+// A text has 131,072 bytes: 4,096 rows, each of 32 bytes at most.
 
 // Rows for `count` verdicts, the first of them that of `tick`: verdict i is bit i % 64 of word i / 64. Answers how many bytes they take, from the
 // text's start; none for more than 4,096 rows, or ticks of 64 bits.

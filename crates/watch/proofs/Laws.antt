@@ -54,8 +54,8 @@ first-of [] a b h = absurd (omega arith)
 first-of (x ∷ xs) a b h = refl
 
 module _ (t : Table) (s : Simplified) (promised : Promised t s) (d : Rule) where
-  abbrev begun : Progress
-  begun = record { session = opening (s .table) 0 .session; name = getD (s .table .rules) 0 d .name; line = empty; count = 0; tick = 0; going = true }
+  abbrev firstProgress : Progress
+  firstProgress = record { session = opening (s .table) 0 .session; name = getD (s .table .rules) 0 d .name; line = empty; count = 0; tick = 0; going = true }
 
   -- a simplification has as many rules, with the same names, and one at least
   module _ (sound : isSound t ≡ true) where
@@ -75,7 +75,7 @@ module _ (t : Table) (s : Simplified) (promised : Promised t s) (d : Rule) where
         ∙ first-of (map (λ (r : Rule). r .name) (s .table .rules)) (d .name) 0 (rw (length-map (s .table .rules) (λ (r : Rule). r .name), sound-iff (s .table) .0 (simpler .sound) .rule-places) (omega arith))
         ∙ ap (λ (names : List ℕ). getD names 0 0) (simpler .names)
 
-  pub begins : Begins t begun
+  pub begins : Begins t firstProgress
   begins book bytes n e h =
       let sound : isSound t ≡ true = rw (← e) (sound-iff (reading book .table) .1 (accepted-sound book bytes n)) in
       let m : Start = record {
@@ -154,10 +154,8 @@ module _ (p : Progress) (at : ℕ) (h block x o : List ℕ) (a : Answer) (h' x' 
       })
   fed-accepted n put =
       let q : E .answer .number ≡ 0 = ap (λ (y : Effect). y .answer .number) (sym is) ∙ n in
-      let y = is ∙ feed-accepted (p .session) h x o (take (p .count) block) q .0 in
-      let k : a .count ≡ (p .session .seen + length (take (p .count) block) - delayOf (p .session)) - (p .session .seen - delayOf (p .session)) =
-      ap (λ (z : Effect). z .answer .count) y in
-      let s : a .session .seen ≡ p .session .seen + length (take (p .count) block) = ap (λ (z : Effect). z .answer .session .seen) y in
+      let k = count-is n in
+      let s = seen-then n in
       let w = put-bytes put ∙ fitting-is (p .name) (p .tick) o' (a .count) (omega (arith, k, waits, fits)) (omega (arith, ticked, counted)) in
       record {
         place = refl;

@@ -64,6 +64,16 @@ Closes p h text used =
     (m : Start) (last : Bool) (read shown block : List ℕ) → Runs m last read shown p h block → p .line .digits ≡ 0 → p .count ≡ 0
     → printed m read ≡ shown ++ take used text
 
+-- ---- a run of the program: it begins, and makes a step as long as it goes on; the parts are whatever the reads of the input gave.
+-- `read` are the bytes that its steps have read, joined, and `shown` their texts, joined. What is printed then is in proofs/Printing:
+-- `ended-printed`, `last-line`, `refused-printed`, `all-printed`.
+pub data Run (m : Start) : List ℕ → List ℕ → Progress → List ℕ → List ℕ → Type 0 where
+  begun : {p : Progress} {h block : List ℕ} → p .going ≡ true → Runs m false [] [] p h block → Run m [] [] p h block
+  stepped : {read shown : List ℕ} {p : Progress} {h block : List ℕ} (part : List ℕ) (at : ℕ) (h' block' text : List ℕ) (o : Outcome)
+      → Run m read shown p h block → p .going ≡ true → Steps p part at h block h' block' text o
+      → Run m (read ++ take (o .at - at) (drop at part)) (shown ++ take (o .used) text) (o .progress) h' block'
+
+-- ---- parts of the input
 -- the program at work after `read`, whatever it has shown
 pub record Passed (m : Start) (read : List ℕ) (p : Progress) (h block : List ℕ) : Type 0 where
   pub shown : List ℕ

@@ -139,11 +139,11 @@ fn close(
     ensures { λ r. ⌜ Closes p (now (history .entry)) (now (text .exit)) r ⌝ }
 {
     let session = p.session;
-    let a = session.close(history, scratch, out);
-    if a.number != 0 {
+    let b = session.close(history, scratch, out);
+    if b.number != 0 {
         return 0;
     }
-    rows::put_rows(text, p.name, p.tick, out, a.count)
+    rows::put_rows(text, p.name, p.tick, out, b.count)
 }
 
 // Writes the first bytes of the text; answers whether all were taken.

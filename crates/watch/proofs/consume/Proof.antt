@@ -1,4 +1,4 @@
--- `watch::consume` meets its contract. The invariant: the next step may begin. Assumes nothing.
+-- `watch::consume` meets its contract. The invariant: the next step may begin, and the bytes so far were read. Assumes nothing.
 use Prim.Native.Nat.{_-_, _≤_}
 use native.Mathlib.Omega.{arith}
 use mathlib.Core.Path.{_≡_, sym, _∙_}
