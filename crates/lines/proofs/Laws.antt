@@ -1,6 +1,6 @@
 -- What the line reader's contract comes to: lines byte by byte, parts of a text, and a text in parts. Assumes nothing.
 use mathlib.Core.Path.{_≡_, refl, sym, ap, ap₂, subst, _∙_}
-use mathlib.Core.Logic.{_⊎_, inl, inr, ⊎-elim}
+use mathlib.Core.Logic.{⊎-elim}
 use mathlib.Core.Bool.{Bool, true, false, _&&_, false≢true, true≢false}
 use mathlib.Core.List.{List, [], _∷_, _++_, map, append-assoc, append-nil}
 use Prim.Native.Nat.{ℕ, zero, suc, _+_, _-_, _*_, _≤_, _<_}
@@ -8,7 +8,7 @@ use native.Mathlib.Nat.{add-zero}
 use native.Mathlib.Numerals.{add-one}
 use native.Mathlib.Omega.{arith}
 use borrow.Author.Tests.{eq-eqb, ne-eqb, lt-ltb, le-ltb, le-leb, lt-leb, leb-true, ltb-false}
-use lib.ListN.{length, take, drop, set, getD, drop-of-length-le, length-drop, length-append, length-set}
+use lib.ListN.{length, take, drop, set, getD, drop-of-length-le, length-append, length-set}
 use lib.Dec.{eqb, leb, ltb}
 use lib.Seq.{drop-cons, drop-drop, sets}
 use Rattle.lists.specs.Choice.{pick}

@@ -1,9 +1,9 @@
 -- The laws of what is put into a buffer. Assumes nothing.
-use mathlib.Core.Path.{_≡_, refl, sym, ap, subst, _∙_}
+use mathlib.Core.Path.{_≡_, refl, sym, ap, _∙_}
 use mathlib.Core.Logic.{_⊎_, inl, inr, ⊎-elim}
 use mathlib.Core.Bool.{Bool, true, false, _||_}
 use mathlib.Core.List.{List, [], _∷_, _++_, append-assoc, append-nil}
-use Prim.Native.Nat.{ℕ, zero, suc, _+_, _-_, _*_, _/_, _%_, _^_, _≤_, _<_}
+use Prim.Native.Nat.{ℕ, zero, suc, _+_, _-_, _/_, _%_, _^_, _≤_, _<_}
 use native.Mathlib.Nat.{add-zero, eq-or-lt-of-le, pow-le-pow-right, pow-succ'}
 use native.Mathlib.Numerals.{add-one}
 use native.Mathlib.Omega.{arith}
@@ -133,20 +133,18 @@ fronted-same name tick buffer k h n f =
     let e : (tick - 1) / 10 ≡ tick / 10 = omega arith in
     record { bytes = f .bytes ∙ rw (e, same-test tick h n); short = f .short; within = f .within }
 
--- ---- rows of verdicts, one more
-rows-snoc : (name : List ℕ) (tick : ℕ) (vs : List Bool) (v : Bool) → rowsFrom name tick (vs ++ (v ∷ [])) ≡ rowsFrom name tick vs ++ row name (tick + length vs) (digit v)
-unfolding rowsFrom
-rows-snoc name tick [] v = rw (append-nil (row name tick (digit v)), add-zero tick)
-rows-snoc name tick (u ∷ vs) v =
-    let e : tick + suc (length vs) ≡ tick + 1 + length vs = omega arith in
-    rw (e, rows-snoc name (tick + 1) vs v) (sym (append-assoc (row name tick (digit u)) (rowsFrom name (tick + 1) vs) (row name (tick + 1 + length vs) (digit v))))
-
+-- ---- rows of verdicts, and then others
 pub rows-append : (name : List ℕ) (tick : ℕ) (us vs : List Bool) → rowsFrom name tick (us ++ vs) ≡ rowsFrom name tick us ++ rowsFrom name (tick + length us) vs
 unfolding rowsFrom
 rows-append name tick [] vs = rw (add-zero tick)
 rows-append name tick (u ∷ us) vs =
     let e : tick + suc (length us) ≡ tick + 1 + length us = omega arith in
     rw (e, rows-append name (tick + 1) us vs) (sym (append-assoc (row name tick (digit u)) (rowsFrom name (tick + 1) us) (rowsFrom name (tick + 1 + length us) vs)))
+
+-- one row more
+rows-snoc : (name : List ℕ) (tick : ℕ) (vs : List Bool) (v : Bool) → rowsFrom name tick (vs ++ (v ∷ [])) ≡ rowsFrom name tick vs ++ row name (tick + length vs) (digit v)
+unfolding rowsFrom
+rows-snoc name tick vs v = rows-append name tick vs (v ∷ []) ∙ rw (append-nil (row name (tick + length vs) (digit v)))
 
 -- one row more in the buffer
 pub rows-more : (name old mid new : List ℕ) (tick at n i : ℕ) (f : ℕ → Bool) → tick + i < 2 ^ 64 → Put old 0 (rowsFrom name tick (ticks f i)) mid at

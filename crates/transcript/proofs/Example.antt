@@ -1,7 +1,7 @@
 -- Document 01's own book and input, and what is printed for them: it computes. Assumes nothing.
-use mathlib.Core.Path.{_≡_, refl, subst, sym}
-use mathlib.Core.List.{List, [], _∷_, _++_}
-use Prim.Native.Nat.{ℕ, _+_}
+use mathlib.Core.Path.{_≡_, refl}
+use mathlib.Core.List.{List, [], _∷_}
+use Prim.Native.Nat.{ℕ}
 use Rattle.lists.specs.Bits.{bit}
 use Rattle.lists.specs.Sequence.{every, chain}
 use Rattle.mltl.specs.Mltl.{holds, delay, someFrom, someTick, everyTick, eventually, until, opposite, always, release}
@@ -11,7 +11,7 @@ use Rattle.simplify.specs.declared.Simplified.{Simplified}
 use Rattle.simplify.specs.Promise.{Promised}
 use Rattle.session.specs.Session.{opening}
 use Rattle.mission.specs.Mission.{Start}
-use Rattle.lines.specs.Lines.{lineAfter, readings}
+use Rattle.lines.specs.Lines.{lineAfter}
 use Rattle.rows.specs.Rows.{placesFrom, decimal, row, rowsFrom}
 use Rattle.transcript.specs.Printed.{printed}
 

@@ -1,15 +1,14 @@
 -- Each step of the program keeps what was shown right for what was read. Assumes nothing.
-use Prim.Native.Nat.{ℕ, zero, suc, _+_, _-_, _%_, _≤_, _<_, min}
-use native.Mathlib.Nat.{add-zero}
+use Prim.Native.Nat.{ℕ, _+_, _-_, _≤_, _<_}
 use native.Mathlib.Omega.{arith}
-use mathlib.Core.Path.{_≡_, refl, sym, ap, subst, _∙_}
-use mathlib.Core.Bool.{Bool, true, false, not, _||_, false≢true}
+use mathlib.Core.Path.{_≡_, refl, sym, ap, _∙_}
+use mathlib.Core.Bool.{Bool, true, false, not}
 use mathlib.Core.Logic.{⊎-elim}
 use mathlib.Core.List.{List, [], _∷_, _++_, map, map-append, append-assoc, append-nil}
 use borrow.Author.Tests.{eq-eqb, ne-eqb, eqb-true, not-false, le-leb, lt-leb, le-ltb, ltb-true, leb-false}
 use lib.Dec.{eqb, leb, ltb}
 use lib.ListN.{length, take, length-append}
-use Rattle.lists.specs.Choice.{pick, first}
+use Rattle.lists.specs.Choice.{pick}
 use Rattle.lists.specs.Sequence.{ticks}
 use Rattle.lists.specs.Bits.{bitAt}
 use Rattle.lists.proofs.Tests.{true-or-false, none-test, none-rest, or-left, or-right}
@@ -20,7 +19,7 @@ use Rattle.table.proofs.Soundness.{sound-iff, watched-short}
 use Rattle.session.specs.declared.Session.{Session}
 use Rattle.session.specs.Session.{Effect, feeding, closing, seenLimit, unfit, opening, noSession, delayOf as delayIn}
 use Rattle.session.proofs.Effects.{feed-number, close-number}
-use Rattle.mission.specs.Calls.{Call, feed, close, Exchange, Calls, begin, accepted-feed, accepted-close, statesFed, verdictsGiven, statesOf as statesIn, verdictsOf, Going}
+use Rattle.mission.specs.Calls.{Call, feed, close, begin, accepted-feed, accepted-close, statesFed, verdictsGiven, Going}
 use Rattle.mission.specs.Mission.{Start, sessionOf, delayOf, verdictOf}
 use Rattle.mission.proofs.ThirdDemand.{third-demand}
 use Rattle.mission.proofs.Listed.{come, states-snoc, verdicts-snoc}

@@ -11,7 +11,6 @@ use lib.Seq.{take-add, take-all, sets, sets-eq, length-take-le, take-append-seam
 use Rattle.lists.specs.Choice.{pick}
 use Rattle.lists.specs.Sequence.{ticks}
 use Rattle.lists.specs.Bits.{bitAt}
-use Rattle.session.specs.declared.Session.{Session}
 use Rattle.session.specs.declared.Answer.{Answer}
 use Rattle.session.specs.Session.{Effect, opening, fed, feeding, closing, delayOf, unfit}
 use Rattle.session.proofs.Effects.{feed-accepted, close-accepted as close-is}
@@ -34,7 +33,7 @@ use Rattle.transcript.specs.Printed.{nameOf, ruleName, printed, Running, Stoppe
 use Rattle.transcript.proofs.Steps.{running-begin, newline, few, delay-short, running-lines, stopped-bad, running-fed, stopped-fed, close-accepted, printed-all}
 use Rattle.watch.specs.declared.Progress.{Progress}
 use Rattle.watch.specs.declared.Outcome.{Outcome}
-use Rattle.watch.specs.Steps.{Runs, Follows, Begins, Ready, Fed, Steps, Closes, Passed, Last, Consumed, Completed}
+use Rattle.watch.specs.Steps.{Runs, Follows, Begins, Ready, Fed, Steps, Closes, Passed, Consumed, Completed}
 
 -- rows that fit, at the start of the text
 fitting-is : (name tick : ℕ) (words : List ℕ) (count : ℕ) → count ≤ 4096 → tick ≤ 4294967295 → fitting name tick words count ≡ rowsOf name tick (ticks (bitAt words) count)

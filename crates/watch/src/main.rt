@@ -146,7 +146,8 @@ fn close(
     rows::put_rows(text, p.name, p.tick, out, b.count)
 }
 
-// Writes the first bytes of the text; answers whether all were taken.
+// Writes the first bytes of the text; answers whether all were taken. No step uses more bytes than the text has: the first test makes this function
+// total.
 fn write(text: &[u8], used: usize) -> bool {
     if used > text.len() {
         return false;

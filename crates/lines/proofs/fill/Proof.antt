@@ -1,6 +1,5 @@
 -- `lines::fill` meets its contract. The invariant: some lines were read, and the rest is still to be read. Assumes nothing.
 use Prim.Native.Nat.{_-_, _<_}
-use native.Mathlib.Omega.{arith}
 use mathlib.Core.Path.{sym, _∙_}
 use borrow.Author.Needs.{needs}
 use borrow.Author.Tests.{not-true, not-false, ltb-true}
@@ -10,11 +9,6 @@ use lib.ListN.{length}
 use Rattle.lines.proofs.Laws.{Reached, reached-none, reached-stop, more-read, part-read, bad-read, further, value-fits}
 use Rattle.lines.proofs.fill.Statement.{statement}
 use Rattle.lines.proofs.fill.Tie as tie
-use Rattle.lines.proofs.fill.Reads as reads
-use Rattle.lines.proofs.fill.Lts as lts
-use Rattle.lines.proofs.is_state.Reads as is-state-reads
-use Rattle.lines.proofs.scan_line.Reads as scan-line-reads
-use Rattle.lines.proofs.start.Reads as start-reads
 
 abbrev Inv-loop : tie.InvT-loop
 Inv-loop part at block₀ count i₀ l₀ k₀ block i l k = Reached part block₀ at count l₀ block i l k

@@ -3,11 +3,6 @@ use Rattle.rows.proofs.Laws.{put-then}
 use borrow.Author.Needs.{needs}
 use Rattle.rows.proofs.put_book.Statement.{statement}
 use Rattle.rows.proofs.put_book.Tie as tie
-use Rattle.rows.proofs.put_book.Reads as reads
-use Rattle.rows.proofs.put_book.Lts as lts
-use Rattle.rows.proofs.put.Reads as put-reads
-use Rattle.rows.proofs.put_byte.Reads as put-byte-reads
-use Rattle.rows.proofs.put_number.Reads as put-number-reads
 
 slice-aggregate-put : tie.Need-slice-aggregate-put
 slice-aggregate-put c = search needs

@@ -1,5 +1,5 @@
 -- `rows::put_each` meets its contract. The invariant: i rows are in the buffer, and the front of the next row is there. Assumes nothing.
-use Prim.Native.Nat.{_+_, _-_, _*_, _^_, _≤_, _<_}
+use Prim.Native.Nat.{_+_, _-_, _*_, _≤_}
 use native.Mathlib.Omega.{arith}
 use mathlib.Core.Path.{_≡_, refl, sym, _∙_}
 use borrow.Author.Needs.{needs}
@@ -12,12 +12,6 @@ use Rattle.rows.specs.Rows.{Put, rowsFrom, Fronted}
 use Rattle.rows.proofs.Laws.{rows-more, rows-none, put-length}
 use Rattle.rows.proofs.put_each.Statement.{statement}
 use Rattle.rows.proofs.put_each.Tie as tie
-use Rattle.rows.proofs.put_each.Reads as reads
-use Rattle.rows.proofs.put_each.Lts as lts
-use Rattle.rows.proofs.put_front.Reads as put-front-reads
-use Rattle.rows.proofs.put_row.Reads as put-row-reads
-use Rattle.rows.proofs.renew.Reads as renew-reads
-use Rattle.rows.proofs.verdict_at.Reads as verdict-at-reads
 
 abbrev Inv-loop : tie.InvT-loop
 Inv-loop out₀ name tick words count front₀ k₀ at₀ i₀ out front k at i = Put out₀ 0 (rowsFrom name tick (ticks (bitAt words) i)) out at × (at ≤ 32 * i) × Fronted name (tick + i) front k × (i ≤ count) × (length out ≡ length out₀)

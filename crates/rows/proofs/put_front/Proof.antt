@@ -1,17 +1,11 @@
 -- `rows::put_front` meets its contract. Assumes nothing.
 use native.Mathlib.Omega.{arith}
-use mathlib.Core.Path.{_≡_}
 use borrow.Author.Tests.{lt-ltb, le-ltb}
 use Rattle.rows.specs.Rows.{front}
 use Rattle.rows.proofs.Laws.{put-then, fronted-put}
 use borrow.Author.Needs.{needs}
 use Rattle.rows.proofs.put_front.Statement.{statement}
 use Rattle.rows.proofs.put_front.Tie as tie
-use Rattle.rows.proofs.put_front.Reads as reads
-use Rattle.rows.proofs.put_front.Lts as lts
-use Rattle.rows.proofs.put.Reads as put-reads
-use Rattle.rows.proofs.put_byte.Reads as put-byte-reads
-use Rattle.rows.proofs.put_number.Reads as put-number-reads
 
 put-requires : tie.Need-put-requires
 put-requires c κs = search needs

@@ -4,10 +4,6 @@ use Rattle.rows.proofs.Laws.{put-then}
 use borrow.Author.Needs.{needs}
 use Rattle.rows.proofs.put_row.Statement.{statement}
 use Rattle.rows.proofs.put_row.Tie as tie
-use Rattle.rows.proofs.put_row.Reads as reads
-use Rattle.rows.proofs.put_row.Lts as lts
-use Rattle.rows.proofs.put.Reads as put-reads
-use Rattle.rows.proofs.put_byte.Reads as put-byte-reads
 
 put-requires : tie.Need-put-requires
 put-requires c κs = search needs

@@ -1,20 +1,16 @@
 -- `rows::put_rows` meets its contract. Assumes nothing.
 use native.Mathlib.Omega.{arith}
 use Prim.Native.Nat.{_≤_}
-use mathlib.Core.Path.{_≡_, sym, _∙_}
+use mathlib.Core.Path.{_≡_, _∙_}
 use borrow.Author.Tests.{ltb-false}
 use lib.Dec.{ltb}
-use lib.ListN.{length, take}
+use lib.ListN.{length}
 use Rattle.lists.proofs.Tests.{or-left, or-right}
-use Rattle.rows.specs.Rows.{Put, decimal}
+use Rattle.rows.specs.Rows.{decimal}
 use Rattle.rows.proofs.Laws.{put-none, put-fitting, decimal-is, places-most}
 use borrow.Author.Needs.{needs}
 use Rattle.rows.proofs.put_rows.Statement.{statement}
 use Rattle.rows.proofs.put_rows.Tie as tie
-use Rattle.rows.proofs.put_rows.Reads as reads
-use Rattle.rows.proofs.put_rows.Lts as lts
-use Rattle.io.proofs.decimal.Reads as decimal-reads
-use Rattle.rows.proofs.put_each.Reads as put-each-reads
 
 returns : tie.Need-returns
 returns c = put-none (c .before .args .name) (c .before .args .tick) (c .before .args .words .now) (c .before .args .count) (c .before .args .text .now) (c .if1 .taken)

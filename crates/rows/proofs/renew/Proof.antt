@@ -1,12 +1,8 @@
 -- `rows::renew` meets its contract. Assumes nothing.
-use native.Mathlib.Omega.{arith}
 use Rattle.rows.proofs.Laws.{fronted-same}
 use borrow.Author.Needs.{needs}
 use Rattle.rows.proofs.renew.Statement.{statement}
 use Rattle.rows.proofs.renew.Tie as tie
-use Rattle.rows.proofs.renew.Reads as reads
-use Rattle.rows.proofs.renew.Lts as lts
-use Rattle.rows.proofs.put_front.Reads as put-front-reads
 
 returns : tie.Need-returns
 returns c =

@@ -5,8 +5,6 @@ use Rattle.rows.proofs.Laws.{digit-is}
 use borrow.Author.Needs.{needs}
 use Rattle.rows.proofs.verdict_at.Statement.{statement}
 use Rattle.rows.proofs.verdict_at.Tie as tie
-use Rattle.rows.proofs.verdict_at.Reads as reads
-use Rattle.rows.proofs.verdict_at.Lts as lts
 
 mul-result : tie.Need-mul-result
 mul-result c = search needs

@@ -5,11 +5,6 @@ use Rattle.watch.proofs.Laws.{begins}
 use borrow.Author.Needs.{needs}
 use Rattle.watch.proofs.begin.Statement.{statement}
 use Rattle.watch.proofs.begin.Tie as tie
-use Rattle.watch.proofs.begin.Reads as reads
-use Rattle.watch.proofs.begin.Lts as lts
-use Rattle.lines.proofs.start.Reads as start-reads
-use Rattle.session.proofs.Session.open.Reads as open-reads
-use Rattle.simplify.proofs.simplify.Reads as simplify-reads
 
 simplify-requires : tie.Need-simplify-requires
 simplify-requires c κs = search needs

@@ -8,10 +8,6 @@ use Rattle.watch.proofs.Laws.{close-never, close-always}
 use borrow.Author.Needs.{needs}
 use Rattle.watch.proofs.close.Statement.{statement}
 use Rattle.watch.proofs.close.Tie as tie
-use Rattle.watch.proofs.close.Reads as reads
-use Rattle.watch.proofs.close.Lts as lts
-use Rattle.rows.proofs.put_rows.Reads as put-rows-reads
-use Rattle.session.proofs.Session.close.Reads as close-reads
 
 close-requires : tie.Need-close-requires
 close-requires c κs = search needs

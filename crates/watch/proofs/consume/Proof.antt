@@ -1,5 +1,5 @@
 -- `watch::consume` meets its contract. The invariant: the next step may begin, and the bytes so far were read. Assumes nothing.
-use Prim.Native.Nat.{_-_, _≤_}
+use Prim.Native.Nat.{_-_}
 use native.Mathlib.Omega.{arith}
 use mathlib.Core.Path.{_≡_, sym, _∙_}
 use borrow.Author.Tests.{not-true, not-false}
@@ -9,11 +9,6 @@ use Rattle.watch.specs.Steps.{Ready}
 use Rattle.watch.proofs.Laws.{Through, through-none, through-step, through-all, consumed-ended}
 use Rattle.watch.proofs.consume.Statement.{statement}
 use Rattle.watch.proofs.consume.Tie as tie
-use Rattle.watch.proofs.consume.Reads as reads
-use Rattle.watch.proofs.consume.Lts as lts
-use Rattle.watch.proofs.ended.Reads as ended-reads
-use Rattle.watch.proofs.step.Reads as step-reads
-use Rattle.watch.proofs.write.Reads as write-reads
 
 abbrev Inv-loop : tie.InvT-loop
 Inv-loop part block₀ history₀ scratch₀ out₀ text₀ p₀ at₀ block history scratch out text p at =

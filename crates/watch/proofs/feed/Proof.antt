@@ -9,11 +9,6 @@ use mathlib.Core.List.{[]}
 use borrow.Author.Needs.{needs}
 use Rattle.watch.proofs.feed.Statement.{statement}
 use Rattle.watch.proofs.feed.Tie as tie
-use Rattle.watch.proofs.feed.Reads as reads
-use Rattle.watch.proofs.feed.Lts as lts
-use Rattle.rows.proofs.put_feed.Reads as put-feed-reads
-use Rattle.rows.proofs.put_rows.Reads as put-rows-reads
-use Rattle.session.proofs.Session.feed.Reads as feed-reads
 
 -- the buffers
 sizes : (c : tie.After-feed-arg4)

@@ -6,12 +6,6 @@ use lib.ListN.{length}
 use borrow.Author.Needs.{needs}
 use Rattle.watch.proofs.finish.Statement.{statement}
 use Rattle.watch.proofs.finish.Tie as tie
-use Rattle.watch.proofs.finish.Reads as reads
-use Rattle.watch.proofs.finish.Lts as lts
-use Rattle.watch.proofs.close.Reads as close-reads
-use Rattle.watch.proofs.feed.Reads as feed-reads
-use Rattle.watch.proofs.last_line.Reads as last-line-reads
-use Rattle.watch.proofs.write.Reads as write-reads
 
 last-line-requires : tie.Need-last-line-requires
 last-line-requires c κs = search needs

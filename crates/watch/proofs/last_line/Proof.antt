@@ -5,11 +5,6 @@ use Rattle.watch.proofs.Laws.{complete-step, complete-ended}
 use borrow.Author.Needs.{needs}
 use Rattle.watch.proofs.last_line.Statement.{statement}
 use Rattle.watch.proofs.last_line.Tie as tie
-use Rattle.watch.proofs.last_line.Reads as reads
-use Rattle.watch.proofs.last_line.Lts as lts
-use Rattle.watch.proofs.ended.Reads as ended-reads
-use Rattle.watch.proofs.step.Reads as step-reads
-use Rattle.watch.proofs.write.Reads as write-reads
 
 returns : tie.Need-returns
 returns c = search needs

@@ -4,12 +4,6 @@ use lib.Seq.{length-take-le}
 use borrow.Author.Needs.{needs}
 use Rattle.watch.proofs.main.Statement.{statement}
 use Rattle.watch.proofs.main.Tie as tie
-use Rattle.watch.proofs.main.Reads as reads
-use Rattle.watch.proofs.main.Lts as lts
-use Rattle.book.proofs.read.Reads as read-reads
-use Rattle.watch.proofs.load.Reads as load-reads
-use Rattle.watch.proofs.tell.Reads as tell-reads
-use Rattle.watch.proofs.watch.Reads as watch-reads
 
 slice-aggregate-load : tie.Need-slice-aggregate-load
 slice-aggregate-load c = search needs

@@ -1,5 +1,5 @@
 -- `watch::run` meets its contract. The invariant: the next part may be read. Assumes nothing.
-use Prim.Native.Nat.{ℕ, _-_, _≤_}
+use Prim.Native.Nat.{ℕ}
 use native.Mathlib.Omega.{arith}
 use mathlib.Core.Path.{_≡_, sym, _∙_}
 use mathlib.Core.Bool.{false≢true}
@@ -9,14 +9,6 @@ use lib.ListN.{length}
 use Rattle.watch.specs.Steps.{Ready}
 use Rattle.watch.proofs.run.Statement.{statement}
 use Rattle.watch.proofs.run.Tie as tie
-use Rattle.watch.proofs.run.Reads as reads
-use Rattle.watch.proofs.run.Lts as lts
-use Rattle.io.proofs.count.Reads as count-reads
-use Rattle.io.proofs.large_buffer.Reads as large-buffer-reads
-use Rattle.libc.proofs.read.Reads as read-reads
-use Rattle.os.proofs.fail.Reads as fail-reads
-use Rattle.watch.proofs.consume.Reads as consume-reads
-use Rattle.watch.proofs.ended.Reads as ended-reads
 
 abbrev Inv-loop : tie.InvT-loop
 Inv-loop block₀ history₀ scratch₀ out₀ text₀ buf₀ p₀ turns₀ t12 block history scratch out text buf p turns = Ready p × (length block ≡ 1024) × (65536 ≡ length buf)

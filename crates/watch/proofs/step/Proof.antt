@@ -1,15 +1,8 @@
 -- `watch::step` meets its contract. Assumes nothing.
-use native.Mathlib.Omega.{arith}
-use Prim.Native.Nat.{_≤_}
 use Rattle.watch.proofs.Laws.{few-lines, block-size, bad-step, part-step, fed-step}
 use borrow.Author.Needs.{needs}
 use Rattle.watch.proofs.step.Statement.{statement}
 use Rattle.watch.proofs.step.Tie as tie
-use Rattle.watch.proofs.step.Reads as reads
-use Rattle.watch.proofs.step.Lts as lts
-use Rattle.lines.proofs.fill.Reads as fill-reads
-use Rattle.rows.proofs.put_bad_line.Reads as put-bad-line-reads
-use Rattle.watch.proofs.feed.Reads as feed-reads
 
 fill-requires : tie.Need-fill-requires
 fill-requires c κs = search needs

@@ -4,11 +4,6 @@ use lib.ListN.{length}
 use borrow.Author.Needs.{needs}
 use Rattle.watch.proofs.watch.Statement.{statement}
 use Rattle.watch.proofs.watch.Tie as tie
-use Rattle.watch.proofs.watch.Reads as reads
-use Rattle.watch.proofs.watch.Lts as lts
-use Rattle.watch.proofs.begin.Reads as begin-reads
-use Rattle.watch.proofs.finish.Reads as finish-reads
-use Rattle.watch.proofs.run.Reads as run-reads
 
 begin-requires : tie.Need-begin-requires
 begin-requires c κs = search needs

@@ -4,10 +4,6 @@ use lib.Seq.{length-take-le}
 use borrow.Author.Needs.{needs}
 use Rattle.watch.proofs.write.Statement.{statement}
 use Rattle.watch.proofs.write.Tie as tie
-use Rattle.watch.proofs.write.Reads as reads
-use Rattle.watch.proofs.write.Lts as lts
-use Rattle.io.proofs.write_all.Reads as write-all-reads
-use Rattle.os.proofs.fail.Reads as fail-reads
 
 returns : tie.Need-returns
 returns c = search needs
