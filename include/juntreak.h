@@ -6,8 +6,7 @@
  *   aligned for their type. Buffers of one call do not overlap.
  * - Lengths are in elements, not in bytes.
  * - Multi-byte numbers in tables and sessions are little-endian.
- * - A call refused with 21 to 25 leaves every buffer unchanged, except that a
- *   refused juntreak_open writes zeros into its session.
+ * - A refused call writes nothing: no byte of any buffer changes.
  * - There is no global state. Calls on different buffers may run in parallel.
  */
 #ifndef JUNTREAK_H
@@ -95,8 +94,8 @@ enum {
  * number + 256 * record, numbers 1 to 11. */
 uint32_t juntreak_check_book(const uint8_t *book, size_t n);
 
-/* Reads a book of n bytes. Answers as juntreak_check_book does. The table is
- * written: the book's if it is accepted, otherwise zeros. */
+/* Reads a book of n bytes. Answers as juntreak_check_book does. If it is 0,
+ * the book's table is written. */
 uint32_t juntreak_read(const uint8_t *book, size_t n,
                        uint8_t table[JUNTREAK_TABLE_BYTES]);
 
@@ -106,9 +105,9 @@ uint32_t juntreak_delay(const uint8_t table[JUNTREAK_TABLE_BYTES],
                         uint32_t rule);
 
 /* Splits the interval [lo, hi]. Answers number + 256 * count, numbers 0 and
- * 6. The parts are written: hi - lo is the sum of 2^k - 1 over the first
- * count numbers k, largest first; the other places are zero, as are all
- * places and the count if refused. */
+ * 6; the count is 0 if refused. If the number is 0, the parts are written:
+ * hi - lo is the sum of 2^k - 1 over the first count numbers k, largest
+ * first, and the other places are zero. */
 uint32_t juntreak_split(uint16_t lo, uint16_t hi,
                         uint8_t parts[JUNTREAK_PARTS_BYTES]);
 
@@ -130,7 +129,7 @@ uint32_t juntreak_verdicts(const uint8_t table[JUNTREAK_TABLE_BYTES],
 uint32_t juntreak_simplify(uint8_t table[JUNTREAK_TABLE_BYTES]);
 
 /* Opens a session on a rule, with no state seen. Answers the number: 0, 25,
- * 21. The session is written: zeros if refused. */
+ * 21. If it is 0, the session is written. */
 uint32_t juntreak_open(const uint8_t table[JUNTREAK_TABLE_BYTES],
                        uint32_t rule, uint8_t session[JUNTREAK_SESSION_BYTES]);
 

@@ -23,17 +23,11 @@ pub fn check_book(book: &[u8]) -> u32 {
     unsafe { raw::juntreak_check_book(book.as_ptr(), book.len()) }
 }
 
-/// The number, the record, and the table, into a buffer that held `dirt`.
-pub fn read(book: &[u8], dirt: u8) -> (u8, u8, TableBytes) {
-    let mut table = [dirt; TABLE];
-    let r = read_into(book, &mut table);
+/// The number and the record.
+pub fn read(book: &[u8], table: &mut TableBytes) -> (u8, u8) {
+    let r = unsafe { raw::juntreak_read(book.as_ptr(), book.len(), table) };
     assert!(r < 65536);
-    ((r % 256) as u8, (r / 256) as u8, table)
-}
-
-/// The number and 256 times the record.
-pub fn read_into(book: &[u8], table: &mut TableBytes) -> u32 {
-    unsafe { raw::juntreak_read(book.as_ptr(), book.len(), table) }
+    ((r % 256) as u8, (r / 256) as u8)
 }
 
 /// The number and the delay.
@@ -42,11 +36,10 @@ pub fn delay(table: &TableBytes, rule: u32) -> (u32, u32) {
     (r % 65536, r / 65536)
 }
 
-/// The number, the count and the parts.
-pub fn split(lo: u16, hi: u16) -> (u32, usize, [u8; 12]) {
-    let mut parts = [0xaa; 12];
-    let r = unsafe { raw::juntreak_split(lo, hi, &mut parts) };
-    (r % 256, (r / 256) as usize, parts)
+/// The number and the count.
+pub fn split(lo: u16, hi: u16, parts: &mut [u8; 12]) -> (u32, usize) {
+    let r = unsafe { raw::juntreak_split(lo, hi, parts) };
+    (r % 256, (r / 256) as usize)
 }
 
 /// The number.
@@ -59,15 +52,8 @@ pub fn simplify(table: &mut TableBytes) -> u32 {
     unsafe { raw::juntreak_simplify(table) }
 }
 
-/// The number and the session, into a buffer that held `dirt`.
-pub fn open(table: &TableBytes, rule: u32, dirt: u8) -> (u32, SessionBytes) {
-    let mut session = [dirt; SESSION];
-    let number = open_into(table, rule, &mut session);
-    (number, session)
-}
-
 /// The number.
-pub fn open_into(table: &TableBytes, rule: u32, session: &mut SessionBytes) -> u32 {
+pub fn open(table: &TableBytes, rule: u32, session: &mut SessionBytes) -> u32 {
     unsafe { raw::juntreak_open(table, rule, session) }
 }
 

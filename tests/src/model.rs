@@ -441,12 +441,15 @@ pub fn session(b: &[u8; 558]) -> Option<Session> {
     Some(Session { table, rule, seen })
 }
 
-/// The number of an opening and its session.
-pub fn open(table: &[u8; 546], rule: u32) -> (u32, [u8; 558]) {
+/// The number of an opening, and the session after it.
+pub fn open(table: &[u8; 546], rule: u32, session: &mut [u8; 558]) -> u32 {
     match sound(table) {
-        None => (25, [0; 558]),
-        Some(t) if rule as usize >= t.rules.len() => (21, [0; 558]),
-        Some(table) => (0, Session { table, rule, seen: 0 }.bytes()),
+        None => 25,
+        Some(t) if rule as usize >= t.rules.len() => 21,
+        Some(table) => {
+            *session = Session { table, rule, seen: 0 }.bytes();
+            0
+        }
     }
 }
 

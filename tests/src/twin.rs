@@ -246,19 +246,19 @@ fn put_seen(session: &mut [u8; 558], seen: usize) {
     session[550..554].copy_from_slice(&(seen as u32).to_le_bytes());
 }
 
-/// The number and the session.
-pub fn open(table: &[u8; 546], rule: u32) -> (u32, [u8; 558]) {
-    let mut session = [0; 558];
-    let Some(t) = parse(table) else { return (25, session) };
+/// The number.
+pub fn open(table: &[u8; 546], rule: u32, session: &mut [u8; 558]) -> u32 {
+    let Some(t) = parse(table) else { return 25 };
     if sound(&t).is_none() {
-        return (25, session);
+        return 25;
     }
     if rule as usize >= t.rule_count {
-        return (21, session);
+        return 21;
     }
     session[..546].copy_from_slice(table);
     session[546..550].copy_from_slice(&rule.to_le_bytes());
-    (0, session)
+    session[550..].fill(0);
+    0
 }
 
 /// Of the first h states of history and then the block, the last `left` go to history's first places.

@@ -5,7 +5,8 @@ use juntreak_tests::random::{book, damage_book, table, Random};
 
 /// Every answer about one book; returns the number of the refusal.
 fn compare(b: &[u8], dirt: u8) -> u8 {
-    let (number, record, bytes) = read(b, dirt);
+    let mut bytes = [dirt; 546];
+    let (number, record) = read(b, &mut bytes);
     assert_eq!(check_book(b), number as u32 + 256 * record as u32);
     match model::read(b) {
         Ok(t) => {
@@ -15,7 +16,7 @@ fn compare(b: &[u8], dirt: u8) -> u8 {
         }
         Err(refusal) => {
             assert_eq!((number, record), refusal, "{b:?}");
-            assert_eq!(bytes, [0; 546]);
+            assert_eq!(bytes, [dirt; 546], "a refused call writes nothing");
         }
     }
     number
@@ -144,13 +145,16 @@ fn all_splittings() {
             if lo + v > 4095 {
                 continue;
             }
-            let (number, count, parts) = split(lo, lo + v);
+            let mut parts = [0xaa; 12];
+            let (number, count) = split(lo, lo + v, &mut parts);
             assert_eq!((number, count), (0, want.len()));
             assert_eq!(&parts[..count], &want[..]);
             assert!(parts[count..].iter().all(|k| *k == 0));
         }
     }
     for (lo, hi) in [(1, 0), (5, 4), (0, 4096), (4096, 4096), (65535, 65535), (65535, 0)] {
-        assert_eq!(split(lo, hi), (6, 0, [0; 12]));
+        let mut parts = [0xaa; 12];
+        assert_eq!(split(lo, hi, &mut parts), (6, 0));
+        assert_eq!(parts, [0xaa; 12], "a refused call writes nothing");
     }
 }

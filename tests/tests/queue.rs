@@ -136,8 +136,9 @@ fn twin_sessions() {
         if r.chance(8) {
             damage(&mut r, &mut bytes);
         }
-        let opened = twin::open(&bytes, rule);
-        assert_eq!(opened, model::open(&bytes, rule));
+        let (mut opened, mut wanted) = ([0xaa; 558], [0xaa; 558]);
+        assert_eq!(twin::open(&bytes, rule, &mut opened), model::open(&bytes, rule, &mut wanted));
+        assert_eq!(opened, wanted);
         let mut session = Session { table: t, rule, seen: 0 }.bytes();
         let mut history = short_words(&mut r, 4096);
         for _ in 0..6 {

@@ -90,15 +90,16 @@ fn random_lists_of_calls() {
         let longest = r.pick(&[4095, 1100, 300, 70, 9, 9, 0]);
         let t = if r.chance(2) { redundant(&mut r, count, longest) } else { table(&mut r, count, longest) };
         let b = book(&mut r, &t);
-        let (number, _, bytes) = read(&b, round as u8);
-        assert_eq!(number, 0);
+        let mut bytes = [round as u8; 546];
+        assert_eq!(read(&b, &mut bytes), (0, 0));
         assert!(bytes == t.bytes());
         let mut simple = bytes;
         assert_eq!(simplify(&mut simple), 0);
         let rule = r.below(t.rules.len() as u64) as usize;
-        let (number, mut session) = open(&simple, rule as u32, round as u8);
-        assert_eq!((number, session), model::open(&simple, rule as u32));
-        assert_eq!(number, 0);
+        let (mut session, mut wanted) = ([round as u8; 558], [round as u8; 558]);
+        assert_eq!(open(&simple, rule as u32, &mut session), 0);
+        assert_eq!(model::open(&simple, rule as u32, &mut wanted), 0);
+        assert_eq!(session, wanted);
         let d = model::sound(&simple).unwrap().rule_delay(rule) as usize;
 
         // One or two traces on the session; history may hold anything at the start of each.
@@ -183,12 +184,47 @@ fn openings() {
             damage(&mut r, &mut bytes);
         }
         for rule in [0, 1, 7, 8, 256, u32::MAX] {
-            let got = open(&bytes, rule, round as u8);
-            assert!(got == model::open(&bytes, rule));
-            seen[got.0 as usize] += 1;
+            let (mut session, mut wanted) = ([round as u8; 558], [round as u8; 558]);
+            let number = open(&bytes, rule, &mut session);
+            assert_eq!(number, model::open(&bytes, rule, &mut wanted));
+            assert_eq!(session, wanted);
+            seen[number as usize] += 1;
         }
     }
     assert!(seen[0] > 1000 && seen[21] > 1000 && seen[25] > 1000);
+}
+
+/// A running session that is handed to a refused open goes on as if nothing had been.
+#[test]
+fn refused_open_leaves_a_running_session() {
+    let mut r = Random(35);
+    let mut refused = 0;
+    for _ in 0..500 {
+        let count = 1 + r.below(12) as usize;
+        let t = table(&mut r, count, 70);
+        let mut session = [0; 558];
+        assert_eq!(open(&t.bytes(), 0, &mut session), 0);
+        let (mut history, mut x, mut o) = (vec![0; 4095], vec![0; 5280], vec![0; 64]);
+        let states = trace(&mut r, 300);
+        let mut given = vec![];
+        for block in states.chunks(100) {
+            let (_, n) = feed_compared(&mut session, block, &mut history, &mut x, &mut o);
+            given.extend(bits(&o, n));
+            let mut bytes = t.bytes();
+            let rule = if r.chance(2) { t.rules.len() as u32 } else { 0 };
+            damage(&mut r, &mut bytes);
+            if model::open(&bytes, rule, &mut session.clone()) != 0 {
+                let before = session;
+                assert_ne!(open(&bytes, rule, &mut session), 0);
+                assert_eq!(session, before);
+                refused += 1;
+            }
+        }
+        let (_, n) = close_compared(&mut session, &history, &mut x, &mut o);
+        given.extend(bits(&o, n));
+        assert_eq!(given, t.rule_verdicts(0, &states));
+    }
+    assert!(refused > 500, "{refused}");
 }
 
 /// Bytes that are no session's: each is answered with 25 before anything else is looked at.
@@ -282,7 +318,8 @@ fn limits() {
 #[test]
 fn worked_session() {
     let mut r = Random(35);
-    let (number, mut session) = open(&worked().bytes(), 0, 0xaa);
+    let mut session = [0xaa; 558];
+    let number = open(&worked().bytes(), 0, &mut session);
     assert_eq!(number, 0);
     assert_eq!(library::delay(&worked().bytes(), 0), (0, 3));
     let mut history = short_words(&mut r, 4095);

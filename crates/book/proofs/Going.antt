@@ -18,7 +18,8 @@ use Rattle.book.specs.Entries.{entryOf, isNode}
 use Rattle.book.specs.Steps.{seenAt, entered, nodeAdded, ruleAdded, added, walkFault, begun, ended}
 use Rattle.book.specs.Reading.{refused, rows, fault, headFault, finished, along, reading}
 use Rattle.book.specs.Keeps.{Linked}
-use Rattle.book.proofs.Tests.{Sized, HeadClear, head-clear, head-kind, no-row}
+use Rattle.lists.proofs.Rows.{no-row}
+use Rattle.book.proofs.Tests.{Sized, HeadClear, head-clear, head-kind}
 use Rattle.book.proofs.Among.{not-among}
 use Rattle.book.proofs.Stands.{Stands, fault-same, added-stands, new-seen, next-is, begun-stands, ended-same}
 

@@ -16,7 +16,8 @@ use Rattle.book.specs.declared.Entry.{Entry}
 use Rattle.book.specs.Entries.{entryOf, usesIn, isNode, isRule, formed, badForm, badArg, badInterval}
 use Rattle.book.specs.Reading.{nodeAt, ruleAt, nodesIn, rulesIn, nodeOf, nodes, linkFault, operandFault, countFault, delayFault, nameFault, rows}
 use Rattle.book.specs.Keeps.{Linked, Formed, NodeKind, EarlierNode, Kept}
-use Rattle.book.proofs.Tests.{neither, or-else, not-and, no-row}
+use Rattle.lists.proofs.Rows.{no-row}
+use Rattle.book.proofs.Tests.{neither, or-else, not-and}
 use Rattle.book.proofs.Among.{among-iff, not-among, among-filter, none-named, named-none}
 use Rattle.book.proofs.Stands.{next-is}
 

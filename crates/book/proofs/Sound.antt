@@ -25,7 +25,8 @@ use Rattle.book.specs.declared.Reading.{Reading}
 use Rattle.book.specs.Entries.{Bytes, entryOf, usesIn}
 use Rattle.book.specs.Reading.{index, place, nodeAt, ruleAt, nodesIn, nodeOf, ruleOf, nodes, rules, tableOf, rows, fault, headFault, refused, accepted, unless, finished, along, reading}
 use Rattle.book.specs.Keeps.{Head, Kept, EarlierNode, Along, over, on}
-use Rattle.book.proofs.Tests.{no-row, other-kind, node-no-rule}
+use Rattle.lists.proofs.Rows.{no-row}
+use Rattle.book.proofs.Tests.{other-kind, node-no-rule}
 use Rattle.book.proofs.Among.{among-filter, collect-in, collect-out, collect-map, collect-length}
 use Rattle.book.proofs.Stands.{nodeIn, ruleIn}
 use Rattle.book.proofs.Kept.{node-iff, earlier-iff, keeping}

@@ -10,7 +10,8 @@ use lib.Dec.{ltb, leb, eqb}
 use lib.ListN.{length, getD, set, replicate, length-append, length-set}
 use Rattle.lists.specs.Choice.{pick}
 use Rattle.lists.specs.Sequence.{among, padded, chain}
-use Rattle.lists.proofs.Tests.{row-more, and-right, or-left, or-right}
+use Rattle.lists.proofs.Rows.{row-more}
+use Rattle.lists.proofs.Tests.{and-right, or-left, or-right}
 use Rattle.lists.proofs.Sequences.{getD-free, getD-padded, set-padded, chain-append}
 use Rattle.table.specs.Nodes.{noNode, noRule, delayOf, delays}
 use Rattle.table.specs.declared.Node.{Node}

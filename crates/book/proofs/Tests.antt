@@ -1,5 +1,5 @@
--- Tests of records: rows of which none fits, the length of a book, and what the code's parts put together. Assumes nothing.
-use Prim.Native.Nat.{ℕ, zero, suc, _*_, _%_, _≤_, _<_}
+-- Tests of records: the length of a book, and what the code's parts put together. Assumes nothing.
+use Prim.Native.Nat.{ℕ, _*_, _%_, _≤_, _<_}
 use native.Mathlib.Omega.{arith}
 use mathlib.Core.Path.{_≡_, refl, sym, _∙_}
 use mathlib.Core.Bool.{Bool, true, false, _&&_, _||_, not}
@@ -7,8 +7,9 @@ use mathlib.Core.List.{List, [], _∷_}
 use borrow.Author.Tests.{ltb-true, ltb-false, lt-ltb, le-ltb, eqb-true, leb-true, leb-false, le-leb, eq-eqb, ne-eqb, not-false}
 use lib.Dec.{ltb, leb, eqb}
 use lib.ListN.{length, getD}
-use Rattle.lists.specs.Choice.{Row, _if_, first}
-use Rattle.lists.proofs.Tests.{true-left, true-right, and-right, or-left, or-right, none-test, none-rest}
+use Rattle.lists.specs.Choice.{_if_}
+use Rattle.lists.proofs.Tests.{true-left, true-right, and-right, or-left, or-right}
+use Rattle.lists.proofs.Rows.{no-row}
 use Rattle.table.specs.Nodes.{cap, delayOf, delays}
 use Rattle.table.specs.declared.Node.{Node}
 use Rattle.book.specs.declared.Entry.{Entry}
@@ -30,17 +31,6 @@ or-else false h = h refl
 pub not-and : (a : Bool) {b : Bool} → (a ≡ true → b ≡ false) → (a && b) ≡ false
 not-and true h = h refl
 not-and false h = refl
-
--- ---- where no row fits, each test is false
-abbrev numbered : List Row → Bool
-numbered [] = true
-numbered (r ∷ rs) = ltb 0 (r .number) && numbered rs
-
-pub no-row : (rs : List Row) → numbered rs ≡ true → first rs ≡ 0 → (i : ℕ) → getD rs i (0 if false) .test ≡ false
-no-row [] p e i = refl
-no-row (r ∷ rs) p e zero = none-test (r .number) (r .test) (first rs) (ltb-true 0 (r .number) (true-left _ _ p)) e
-no-row (r ∷ rs) p e (suc i) =
-    no-row rs (true-right (ltb 0 (r .number)) _ p) (none-rest (r .number) (r .test) (first rs) (ltb-true 0 (r .number) (true-left _ _ p)) e) i
 
 -- ---- a length that is right
 pub record Sized (n : ℕ) : Type 0 where

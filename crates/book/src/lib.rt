@@ -7,7 +7,6 @@ ghost use mathlib.Core.Path.{_≡_};
 ghost use Prim.Native.Nat.{_+_, _*_, _-_, _≤_, _<_};
 ghost use mathlib.Core.Bool.{true, false};
 ghost use lib.ListN.{length, getD};
-ghost use Rattle.lists.specs.Choice.{pick};
 ghost use Rattle.book.specs.Entries.{joined, joinedAt, entryFrom, entryOf, usesIn, isNode, formedBy, badForm, badArg, badInterval, badLength, badHead};
 ghost use Rattle.book.specs.Reading.{refused, headFault, reading};
 ghost use Rattle.book.specs.Steps.{entered, nodeBy, nodeAdded, ruleAdded, added};
@@ -15,24 +14,24 @@ ghost use Rattle.book.specs.Steps.{badLink, badOperand, tooMany, tooLong
 
 // What a record of the book holds: its kind and the record that it links to, then the fields that its kind may use, where an operand
 // is the number of a record, and a tail that is to be zero.
-pub struct Entry {
-    pub kind: u8,
-    pub next: u8,
-    pub arg: u8,
-    pub lo: u16,
-    pub hi: u16,
-    pub left: u8,
-    pub right: u8,
-    pub tail0: u8,
-    pub tail1: u8,
-    pub tail2: u8,
+struct Entry {
+    kind: u8,
+    next: u8,
+    arg: u8,
+    lo: u16,
+    hi: u16,
+    left: u8,
+    right: u8,
+    tail0: u8,
+    tail1: u8,
+    tail2: u8,
 }
 
 // Where the walk along the chain stands: the table so far, and of each record 0 if it is not passed, 1 if it is
 // passed and no node, and 2 + p if it is the node at place p.
-pub struct Walk {
-    pub table: Table,
-    pub seen: [u8; 256],
+struct Walk {
+    table: Table,
+    seen: [u8; 256],
 }
 
 // The number of a refusal and the record that it is about, with a table of zeros; or 0, 0 and the table.
@@ -199,24 +198,18 @@ fn name_used(w: Walk, e: Entry) -> bool
     (e.kind == 11) & !own
 }
 
-fn either(test: bool, number: u8, other: u8) -> u8
-    ensures { λ r. ⌜ r ≡ pick test number other ⌝ }
-{
-    if test { number } else { other }
-}
-
 // The first row of document 01's table that fits a record where the walk stands, or 0.
 fn walk_fault(n: usize, w: Walk, e: Entry) -> u8
     ensures { λ r. ⌜ r ≡ walkFault n w e ⌝ }
 {
-    let f10 = either(name_used(w, e), 10, 0);
-    let f9 = either(too_long(w, e), 9, f10);
-    let f8 = either(too_many(w, e), 8, f9);
-    let f7 = either(bad_operand(w, e), 7, f8);
-    let f6 = either(bad_interval(e), 6, f7);
-    let f5 = either(bad_arg(e), 5, f6);
-    let f4 = either(bad_form(e), 4, f5);
-    either(bad_link(n, w, e), 3, f4)
+    let f10 = lists::either(name_used(w, e), 10, 0);
+    let f9 = lists::either(too_long(w, e), 9, f10);
+    let f8 = lists::either(too_many(w, e), 8, f9);
+    let f7 = lists::either(bad_operand(w, e), 7, f8);
+    let f6 = lists::either(bad_interval(e), 6, f7);
+    let f5 = lists::either(bad_arg(e), 5, f6);
+    let f4 = lists::either(bad_form(e), 4, f5);
+    lists::either(bad_link(n, w, e), 3, f4)
 }
 
 fn enter(w: Walk, r: u8) -> Walk
@@ -333,8 +326,8 @@ fn head_fault(s: &[u8]) -> u8
         return 1;
     }
     let e = entry_of(s, 0);
-    let f3 = either(bad_link(s.len(), begin(), e), 3, 0);
-    either(bad_head(e), 2, f3)
+    let f3 = lists::either(bad_link(s.len(), begin(), e), 3, 0);
+    lists::either(bad_head(e), 2, f3)
 }
 
 // The table of a book that is accepted; or the number of the refusal, the record, and no table.

@@ -1,33 +1,78 @@
-// The interface for programs in other languages: include/juntreak.h declares each function. A table is 546 bytes, a session 558.
+// The interface for programs in other languages: include/juntreak.h declares each function. A table is 546 bytes, a session 558. A refused
+// call writes nothing.
 ghost use mathlib.Core.Path.{_≡_};
-ghost use Prim.Native.Nat.{_+_, _≤_, _%_};
 ghost use Rattle.interval.specs.Parts.{splitting};
 ghost use Rattle.table.specs.Sound.{ruleDelay};
 ghost use Rattle.book.specs.Reading.{reading, codeOf};
 ghost use Rattle.verdict.specs.Verdict.{Answered};
 ghost use Rattle.session.specs.Session.{opening, feeding, closing};
 ghost use Rattle.flat.specs.Flat.{tableFrom, written};
-ghost use Rattle.capi.specs.Answers.{delayAnswer, splitAnswer, Simplifies, fourAt, putFour, sessionFrom, sessionWritten, counted, Called};
+ghost use Rattle.flat.specs.Sessions.{sessionFrom, sessionWritten};
+ghost use Rattle.capi.specs.Answers.{leaves, delayAnswer, splitAnswer, Simplifies, counted, Called};
+use book::Reading;
 use session::Answer;
 use session::Session;
+use table::Table;
+
+// ---- what an accepted call writes
+
+fn put_table(number: u8, t: Table, b: &mut [u8; 546])
+    ensures { λ _. ⌜ now (b .exit) ≡ leaves number (written t (now (b .entry))) (now (b .entry)) ⌝ }
+{
+    if number == 0 {
+        flat::write_table(t, b);
+    }
+}
+
+fn put_parts(number: u8, ks: [u8; 12], parts: &mut [u8; 12])
+    ensures { λ _. ⌜ now (parts .exit) ≡ leaves number ks (now (parts .entry)) ⌝ }
+{
+    if number == 0 {
+        *parts = ks;
+    }
+}
+
+fn put_session(number: u8, s: Session, b: &mut [u8; 558])
+    ensures { λ _. ⌜ now (b .exit) ≡ leaves number (sessionWritten s (now (b .entry))) (now (b .entry)) ⌝ }
+{
+    if number == 0 {
+        flat::write_session(s, b);
+    }
+}
+
+// The count of states seen.
+fn put_count(r: Answer, b: &mut [u8; 558])
+    ensures { λ _. ⌜ now (b .exit) ≡ counted r (now (b .entry)) ⌝ }
+{
+    if r.number == 0 {
+        flat::write_seen(r.session.seen, b);
+    }
+}
+
+// ---- books and tables
+
+fn code_of(r: Reading) -> u32
+    ensures { λ n. ⌜ n ≡ codeOf r ⌝ }
+{
+    r.number as u32 + 256 * (r.record as u32)
+}
 
 // 0 for a book that is accepted, or the number of the refusal and 256 times the record.
 #[no_mangle]
 pub extern "C" fn juntreak_check_book(book: &[u8]) -> u32
     ensures { λ r. ⌜ r ≡ codeOf (reading (now (book .entry))) ⌝ }
 {
-    let r = book::read(book);
-    r.number as u32 + 256 * (r.record as u32)
+    code_of(book::read(book))
 }
 
-// The same, with the table of the book, which is all zeros where it is refused.
+// The same, with the table of a book that is accepted.
 #[no_mangle]
 pub extern "C" fn juntreak_read(book: &[u8], table: &mut [u8; 546]) -> u32
-    ensures { λ r. ⌜ (r ≡ codeOf (reading (now (book .entry)))) × (now (table .exit) ≡ written (reading (now (book .entry)) .table) (now (table .entry))) ⌝ }
+    ensures { λ r. ⌜ (r ≡ codeOf (reading (now (book .entry)))) × (now (table .exit) ≡ leaves (reading (now (book .entry)) .number) (written (reading (now (book .entry)) .table) (now (table .entry))) (now (table .entry))) ⌝ }
 {
     let got = book::read(book);
-    flat::write_table(got.table, table);
-    got.number as u32 + 256 * (got.record as u32)
+    put_table(got.number, got.table, table);
+    code_of(got)
 }
 
 // The delay of a rule of the table.
@@ -43,11 +88,11 @@ pub extern "C" fn juntreak_delay(table: &[u8; 546], rule: u32) -> u32
 // The splitting of [lo, hi], with its parts.
 #[no_mangle]
 pub extern "C" fn juntreak_split(lo: u16, hi: u16, parts: &mut [u8; 12]) -> u32
-    ensures { λ r. ⌜ (r ≡ splitAnswer (splitting lo hi)) × (now (parts .exit) ≡ splitting lo hi .parts) ⌝ }
+    ensures { λ r. ⌜ (r ≡ splitAnswer (splitting lo hi)) × (now (parts .exit) ≡ leaves (splitting lo hi .number) (splitting lo hi .parts) (now (parts .entry))) ⌝ }
 {
     let s = interval::split(lo, hi);
     let ks = s.parts;
-    *parts = ks;
+    put_parts(s.number, ks, parts);
     s.number as u32 + 256 * (s.count as u32)
 }
 
@@ -73,75 +118,21 @@ pub extern "C" fn juntreak_simplify(table: &mut [u8; 546]) -> u32
 {
     let t = flat::read_table(table);
     let r = simplify::simplify(t);
-    if r.number != 0 {
-        return r.number as u32;
-    }
-    flat::write_table(r.table, table);
-    0
+    put_table(r.number, r.table, table);
+    r.number as u32
 }
 
-fn four_at(b: &[u8; 558], at: usize) -> u32
-    requires { ⌜ at + 4 ≤ 558 ⌝ }
-    ensures { λ r. ⌜ r ≡ fourAt (now (b .entry)) at ⌝ }
-{
-    byte(b[at]) + 256 * byte(b[at + 1]) + 65536 * byte(b[at + 2]) + 16777216 * byte(b[at + 3])
-}
-
-fn byte(x: u8) -> u32
-    ensures { λ r. ⌜ (r ≡ x) × (r ≤ 255) ⌝ }
-{
-    x as u32
-}
-
-fn put_four(b: &mut [u8; 558], at: usize, x: u32)
-    requires { ⌜ at + 4 ≤ 558 ⌝ }
-    ensures { λ _. ⌜ now (b .exit) ≡ putFour (now (b .entry)) at x ⌝ }
-{
-    b[at] = (x % 256) as u8;
-    b[at + 1] = (x / 256 % 256) as u8;
-    b[at + 2] = (x / 65536 % 256) as u8;
-    b[at + 3] = (x / 16777216 % 256) as u8;
-}
-
-fn session_from(b: &[u8; 558]) -> Session
-    ensures { λ r. ⌜ r ≡ sessionFrom (now (b .entry)) ⌝ }
-{
-    let rule = four_at(b, 546) as usize;
-    let seen = four_at(b, 550);
-    if four_at(b, 554) != 0 {
-        let none = table::no_table();
-        return Session {
-            table: none,
-            rule,
-            seen,
-        };
-    }
-    let table = flat::read_table(b);
-    Session { table, rule, seen }
-}
+// ---- sessions
 
 // A session over the table, that watches the rule.
 #[no_mangle]
 pub extern "C" fn juntreak_open(table: &[u8; 546], rule: u32, session: &mut [u8; 558]) -> u32
-    ensures { λ r. ⌜ (r ≡ opening (tableFrom (now (table .entry))) rule .number) × (now (session .exit) ≡ sessionWritten (opening (tableFrom (now (table .entry))) rule .session) (now (session .entry))) ⌝ }
+    ensures { λ r. ⌜ (r ≡ opening (tableFrom (now (table .entry))) rule .number) × (now (session .exit) ≡ leaves (opening (tableFrom (now (table .entry))) rule .number) (sessionWritten (opening (tableFrom (now (table .entry))) rule .session) (now (session .entry))) (now (session .entry))) ⌝ }
 {
     let t = flat::read_table(table);
     let o = Session::open(t, rule as usize);
-    let s = o.session;
-    flat::write_table(s.table, session);
-    put_four(session, 546, (s.rule % 4294967296) as u32);
-    put_four(session, 550, s.seen);
-    put_four(session, 554, 0);
+    put_session(o.number, o.session, session);
     o.number as u32
-}
-
-// The count of states seen, where the call was accepted.
-fn count_in(session: &mut [u8; 558], r: Answer)
-    ensures { λ _. ⌜ now (session .exit) ≡ counted r (now (session .entry)) ⌝ }
-{
-    if r.number == 0 {
-        put_four(session, 550, r.session.seen);
-    }
 }
 
 // The verdicts that a block of states settles.
@@ -155,9 +146,9 @@ pub extern "C" fn juntreak_feed(
 ) -> u64
     ensures { λ r. ⌜ Called (feeding (sessionFrom (now (session .entry))) (now (block .entry)) (now (history .entry)) (now (scratch .entry)) (now (out .entry))) (now (session .entry)) r (now (session .exit)) (now (history .exit)) (now (scratch .exit)) (now (out .exit)) ⌝ }
 {
-    let s = session_from(session);
+    let s = flat::read_session(session);
     let r = s.feed(block, history, scratch, out);
-    count_in(session, r);
+    put_count(r, session);
     r.number as u64 + 4294967296 * (r.count as u64)
 }
 
@@ -171,8 +162,8 @@ pub extern "C" fn juntreak_close(
 ) -> u64
     ensures { λ r. ⌜ Called (closing (sessionFrom (now (session .entry))) (now (history .entry)) (now (scratch .entry)) (now (out .entry))) (now (session .entry)) r (now (session .exit)) (now (history .entry)) (now (scratch .exit)) (now (out .exit)) ⌝ }
 {
-    let s = session_from(session);
+    let s = flat::read_session(session);
     let r = s.close(history, scratch, out);
-    count_in(session, r);
+    put_count(r, session);
     r.number as u64 + 4294967296 * (r.count as u64)
 }

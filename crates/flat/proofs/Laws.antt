@@ -6,12 +6,12 @@ use mathlib.Core.Bool.{Bool, true, false}
 use mathlib.Core.List.{List, [], _∷_, _++_}
 use borrow.Author.Tests.{lt-ltb, le-ltb, le-leb, lt-leb, eq-eqb}
 use lib.Dec.{ltb, eqb}
-use lib.ListN.{length, getD, drop, length-append, List·getD-append}
-use lib.Seq.{ext-getD}
+use lib.ListN.{length, getD, take, drop, length-append, length-drop, List·getD-append}
+use lib.Seq.{ext-getD, getD-take}
 use Rattle.lists.specs.Choice.{pick}
 use Rattle.lists.specs.Sequence.{ticks}
 use Rattle.lists.proofs.Tests.{_also_}
-use Rattle.lists.proofs.Sequences.{length-ticks, getD-ticks}
+use Rattle.lists.proofs.Sequences.{length-ticks, getD-ticks, ticks-ext}
 use Rattle.table.specs.declared.Node.{Node}
 use Rattle.table.specs.declared.Rule.{Rule}
 use Rattle.table.specs.declared.Table.{Table}
@@ -33,6 +33,28 @@ module _ (b : List ℕ) where
       → _≡_ {A = Table} (record { nodes = ticks (nodeFrom b) 64; «node_count» = byteAt b 0; rules = ticks (ruleFrom b) 8; «rule_count» = byteAt b 1 }) (tableFrom b)
   unfolding tableFrom
   from-bytes h e = simp (le-leb 546 (length b) h, e)
+
+-- the table stands in the first 546 bytes
+module _ (b c : List ℕ) (e : take 546 b ≡ take 546 c) where
+  same-byte : (j : ℕ) → j < 546 → byteAt b j ≡ byteAt c j
+  same-byte j h = sym (getD-take 546 b j 0 h) ∙ ap (λ (l : List ℕ). getD l j 0) e ∙ getD-take 546 c j 0 h
+
+  same-node : (i : ℕ) → i < 64 → nodeFrom b i ≡ nodeFrom c i
+  same-node i h =
+      rw (same-byte (2 + 8 * i) (omega arith), same-byte (2 + 8 * i + 1) (omega arith), same-byte (2 + 8 * i + 2) (omega arith), same-byte (2 + 8 * i + 2 + 1) (omega arith), same-byte (2 + 8 * i + 4) (omega arith), same-byte (2 + 8 * i + 4 + 1) (omega arith), same-byte (2 + 8 * i + 6) (omega arith), same-byte (2 + 8 * i + 7) (omega arith))
+
+  same-rule : (i : ℕ) → i < 8 → ruleFrom b i ≡ ruleFrom c i
+  same-rule i h =
+      rw (same-byte (514 + 4 * i) (omega arith), same-byte (514 + 4 * i + 1) (omega arith), same-byte (514 + 4 * i + 2) (omega arith))
+
+  same-padding : unpadded b ≡ unpadded c
+  same-padding =
+      rw (same-byte 517 (omega arith), same-byte 521 (omega arith), same-byte 525 (omega arith), same-byte 529 (omega arith), same-byte 533 (omega arith), same-byte 537 (omega arith), same-byte 541 (omega arith), same-byte 545 (omega arith))
+
+  pub same-table : 546 ≤ length b → 546 ≤ length c → tableFrom b ≡ tableFrom c
+  unfolding tableFrom
+  same-table h k =
+      rw (le-leb 546 (length b) h, le-leb 546 (length c) k, same-padding, ticks-ext (nodeFrom b) (nodeFrom c) 64 same-node, ticks-ext (ruleFrom b) (ruleFrom c) 8 same-rule, same-byte 0 (omega arith), same-byte 1 (omega arith))
 
 -- ---- a sound table's bytes
 module _ (t : Table) (rest : List ℕ) where
@@ -100,3 +122,11 @@ module _ (t : Table) (rest : List ℕ) where
   pub written-is : 546 ≤ length rest → written t rest ≡ tableBytes t ++ drop 546 rest
   unfolding written
   written-is h = simp (le-leb 546 (length rest) h)
+
+module _ (t : Table) (b : List ℕ) (h : 546 ≤ length b) where
+  pub length-written : length (written t b) ≡ length b
+  length-written =
+      ap length (written-is t b h) ∙ length-append (tableBytes t) (drop 546 b) ∙ omega (arith, length-ticks (tableByte t) 546, length-drop 546 b)
+
+  pub table-back : Sound t → tableFrom (written t b) ≡ t
+  table-back s = ap tableFrom (written-is t b h) ∙ read-written t (drop 546 b) s

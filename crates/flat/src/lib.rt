@@ -1,9 +1,11 @@
-// Tables as bytes, for callers in other languages.
+// Tables and sessions as bytes, for callers in other languages: a table is 546 bytes, a session 558.
 ghost use mathlib.Core.Path.{_≡_};
 ghost use Prim.Native.Nat.{_+_, _*_, _≤_, _<_};
 ghost use lib.ListN.{length};
 ghost use Rattle.lists.specs.Sequence.{ticks};
 ghost use Rattle.flat.specs.Flat.{nodeByte, ruleByte, tableByte, written, pairAt, nodeFrom, ruleFrom, unpadded, tableFrom};
+ghost use Rattle.flat.specs.Sessions.{fourAt, putFour, sessionFrom, sessionWritten, renewed};
+use session::Session;
 use table::Node;
 use table::Rule;
 use table::Table;
@@ -185,4 +187,64 @@ pub fn write_table(t: Table, out: &mut [u8])
         let x = table_byte(t, j);
         out[j] = x;
     }
+}
+
+// ---- sessions
+
+fn four_at(b: &[u8; 558], at: usize) -> u32
+    requires { ⌜ at + 4 ≤ 558 ⌝ }
+    ensures { λ r. ⌜ r ≡ fourAt (now (b .entry)) at ⌝ }
+{
+    byte(b[at]) + 256 * byte(b[at + 1]) + 65536 * byte(b[at + 2]) + 16777216 * byte(b[at + 3])
+}
+
+fn byte(x: u8) -> u32
+    ensures { λ r. ⌜ (r ≡ x) × (r ≤ 255) ⌝ }
+{
+    x as u32
+}
+
+fn put_four(b: &mut [u8; 558], at: usize, x: u32)
+    requires { ⌜ at + 4 ≤ 558 ⌝ }
+    ensures { λ _. ⌜ now (b .exit) ≡ putFour (now (b .entry)) at x ⌝ }
+{
+    b[at] = (x % 256) as u8;
+    b[at + 1] = (x / 256 % 256) as u8;
+    b[at + 2] = (x / 65536 % 256) as u8;
+    b[at + 3] = (x / 16777216 % 256) as u8;
+}
+
+// The session that the bytes hold; over 'no table' where their count of states is above 32 bits.
+pub fn read_session(b: &[u8; 558]) -> Session
+    ensures { λ r. ⌜ r ≡ sessionFrom (now (b .entry)) ⌝ }
+{
+    let rule = four_at(b, 546) as usize;
+    let seen = four_at(b, 550);
+    if four_at(b, 554) != 0 {
+        let none = table::no_table();
+        return Session {
+            table: none,
+            rule,
+            seen,
+        };
+    }
+    let table = read_table(b);
+    Session { table, rule, seen }
+}
+
+// The session's bytes.
+pub fn write_session(s: Session, b: &mut [u8; 558])
+    ensures { λ _. ⌜ now (b .exit) ≡ sessionWritten s (now (b .entry)) ⌝ }
+{
+    write_table(s.table, b);
+    put_four(b, 546, (s.rule % 4294967296) as u32);
+    put_four(b, 550, s.seen);
+    put_four(b, 554, 0);
+}
+
+// The bytes of a session that has seen so many states; all others stay.
+pub fn write_seen(seen: u32, b: &mut [u8; 558])
+    ensures { λ _. ⌜ now (b .exit) ≡ renewed seen (now (b .entry)) ⌝ }
+{
+    put_four(b, 550, seen);
 }

@@ -12,9 +12,9 @@ pub struct Splitting {
     pub count: usize,
 }
 
-pub struct Filled {
-    pub ks: [u8; 12],
-    pub n: usize,
+struct Filled {
+    ks: [u8; 12],
+    n: usize,
 }
 
 // The largest k with 2^k - 1 at most rest: one less than the bits of rest + 1.

@@ -3,15 +3,14 @@
 use Prim.Native.Nat.{ℕ}
 use mathlib.Core.Path.{_≡_}
 use mathlib.Core.Logic.{_↔_}
-use mathlib.Core.Bool.{Bool, true, false, not, _||_}
-use mathlib.Core.List.{List, [], _∷_}
+use mathlib.Core.Bool.{Bool, true}
+use mathlib.Core.List.{List}
 use lib.ListN.{length, take}
-use lib.Dec.{leb}
-use Rattle.lists.specs.Choice.{Row, _if_}
+use Rattle.lists.specs.Choice.{Row, someFits}
 use Rattle.mltl.specs.Mltl.{holds, delay}
 use Rattle.table.specs.declared.Table.{Table}
 use Rattle.table.specs.Nodes.{watchedFormula}
-use Rattle.table.specs.Sound.{isSound}
+use Rattle.table.specs.Sound.{isSound, tableRows, ruleRows}
 use Rattle.book.specs.Reading.{reading}
 use Rattle.simplify.specs.Promise.{Promised}
 use Rattle.simplify.specs.declared.Simplified.{Simplified}
@@ -50,22 +49,11 @@ pub record Beginning (first : Session) (start : List ℕ) (cs : List Call) : Typ
   pub calls : Calls first start cs session history ended
 
 -- ---- a call is refused exactly where a row of document 01's Refusals fits it
--- one of the rows fits
-abbrev pub someFits : List Row → Bool
-someFits [] = false
-someFits (r ∷ rs) = r .test || someFits rs
-
 -- the rows of a call, by its session and the lengths of what it was lent
 abbrev pub rowsOf : Call → List Row
 rowsOf (feed block e) =
     feedRows (unfit (e .session)) (e .session .seen) (length block) (length (e .history)) (length (e .scratch)) (length (e .out))
 rowsOf (close e) = closeRows (unfit (e .session)) (length (e .history)) (length (e .scratch)) (length (e .out))
-
-abbrev pub simplifyRows : Table → List Row
-simplifyRows t = (25 if not (isSound t)) ∷ []
-
-abbrev pub openRows : Table → ℕ → List Row
-openRows t r = (25 if not (isSound t)) ∷ (21 if leb (t .«rule_count») r) ∷ []
 
 -- ---- the third demand
 pub record ThirdDemand : Type 0 where
@@ -79,5 +67,5 @@ pub record ThirdDemand : Type 0 where
   pub reopened : (m : Start) (cs : List Call) (s : Session) (h : List ℕ) → Calls (sessionOf m) (m .history) cs s h true → s ≡ sessionOf m
   -- a call, and before it the simplifier's and the open, is refused exactly where a row fits it
   pub calls-refused : (c : Call) → Meets c → (¬ (numberOf c ≡ 0)) ↔ (someFits (rowsOf c) ≡ true)
-  pub simplify-refused : (t : Table) (r : Simplified) → Promised t r → (¬ (r .number ≡ 0)) ↔ (someFits (simplifyRows t) ≡ true)
-  pub open-refused : (t : Table) (r : ℕ) → (¬ (opening t r .number ≡ 0)) ↔ (someFits (openRows t r) ≡ true)
+  pub simplify-refused : (t : Table) (r : Simplified) → Promised t r → (¬ (r .number ≡ 0)) ↔ (someFits (tableRows (isSound t)) ≡ true)
+  pub open-refused : (t : Table) (r : ℕ) → (¬ (opening t r .number ≡ 0)) ↔ (someFits (ruleRows (isSound t) (t .«rule_count») r) ≡ true)

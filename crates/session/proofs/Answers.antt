@@ -12,7 +12,8 @@ use lib.Seq.{take-at, drop-at, drop-drop}
 use Rattle.lists.specs.Choice.{pick, first}
 use Rattle.lists.specs.Sequence.{padded}
 use Rattle.lists.specs.Bits.{words, packed}
-use Rattle.lists.proofs.Tests.{same-test, ltb-iff, none-test, none-rest, or-left, or-right}
+use Rattle.lists.proofs.Rows.{no-row}
+use Rattle.lists.proofs.Tests.{same-test, ltb-iff, or-left, or-right}
 use Rattle.lists.proofs.Columns.{length-packed}
 use Rattle.mltl.specs.Mltl.{Formula, holds, delay}
 use Rattle.table.specs.declared.Table.{Table}
@@ -113,21 +114,9 @@ buffers h x o m e =
 
 pub feed-fits : (bad : Bool) (seen k h x o : ℕ) → first (feedRows bad seen k h x o) ≡ 0 → FeedFits bad seen k h x o
 feed-fits bad seen k h x o e =
-    let r22 : ℕ = pick (ltb 1024 k) 22 (pick (ltb h 4095 || ltb x 5280 || ltb o 16) 23 (pick (ltb seenLimit (seen + k)) 24 0)) in
-    let r23 : ℕ = pick (ltb h 4095 || ltb x 5280 || ltb o 16) 23 (pick (ltb seenLimit (seen + k)) 24 0) in
-    let r24 : ℕ = pick (ltb seenLimit (seen + k)) 24 0 in
-    let e22 : r22 ≡ 0 = none-rest 25 bad r22 (omega arith) e in
-    let e23 : r23 ≡ 0 = none-rest 22 (ltb 1024 k) r23 (omega arith) e22 in
-    let e24 : r24 ≡ 0 = none-rest 23 (ltb h 4095 || ltb x 5280 || ltb o 16) r24 (omega arith) e23 in
-    let b = buffers h x o 16 (none-test 23 (ltb h 4095 || ltb x 5280 || ltb o 16) r24 (omega arith) e23) in
-    record {
-      fit = none-test 25 bad r22 (omega arith) e;
-      few = ltb-false 1024 k (none-test 22 (ltb 1024 k) r23 (omega arith) e22);
-      history = b .0;
-      scratch = b .1;
-      out = b .2;
-      count = ltb-false seenLimit (seen + k) (none-test 24 (ltb seenLimit (seen + k)) 0 (omega arith) e24);
-    }
+    let no = no-row (feedRows bad seen k h x o) refl e in
+    let b = buffers h x o 16 (no 2) in
+    record { fit = no 0; few = ltb-false 1024 k (no 1); history = b .0; scratch = b .1; out = b .2; count = ltb-false seenLimit (seen + k) (no 3) }
 
 pub record CloseFits (bad : Bool) (h x o : ℕ) : Type 0 where
   pub fit : bad ≡ false
@@ -137,10 +126,9 @@ pub record CloseFits (bad : Bool) (h x o : ℕ) : Type 0 where
 
 pub close-fits : (bad : Bool) (h x o : ℕ) → first (closeRows bad h x o) ≡ 0 → CloseFits bad h x o
 close-fits bad h x o e =
-    let r23 : ℕ = pick (ltb h 4095 || ltb x 5280 || ltb o 64) 23 0 in
-    let e23 : r23 ≡ 0 = none-rest 25 bad r23 (omega arith) e in
-    let b = buffers h x o 64 (none-test 23 (ltb h 4095 || ltb x 5280 || ltb o 64) 0 (omega arith) e23) in
-    record { fit = none-test 25 bad r23 (omega arith) e; history = b .0; scratch = b .1; out = b .2 }
+    let no = no-row (closeRows bad h x o) refl e in
+    let b = buffers h x o 64 (no 1) in
+    record { fit = no 0; history = b .0; scratch = b .1; out = b .2 }
 
 -- ---- the words of out
 module _ (p out mid : List ℕ) (m w : ℕ) (long : length p ≡ w) (room : w ≤ m) (fits : m ≤ length out) (e : mid ≡ p ++ drop w out) where

@@ -2,24 +2,24 @@
 use Prim.Native.Nat.{ℕ, _+_, _-_, _/_, _≤_, _<_, min}
 use native.Mathlib.Omega.{arith}
 use mathlib.Core.Path.{_≡_, refl, sym, ap, _∙_}
-use mathlib.Core.Bool.{Bool, true, false, not, _||_}
+use mathlib.Core.Bool.{Bool, true, false}
 use mathlib.Core.Logic.{⊎-elim}
-use mathlib.Core.List.{List, [], _∷_, _++_, append-assoc}
-use borrow.Author.Tests.{eq-eqb, ne-eqb, eqb-true, eqb-false, not-false, ltb-false, leb-false}
-use lib.Dec.{ltb, leb, eqb}
+use mathlib.Core.List.{List, _++_, append-assoc}
+use borrow.Author.Tests.{eq-eqb, eqb-true, eqb-false, lt-leb}
+use lib.Dec.{eqb}
 use lib.ListN.{length, getD, take, drop, replicate, List·getD-append}
-use Rattle.lists.specs.Choice.{pick, _if_, first}
+use Rattle.lists.specs.Choice.{pick}
 use Rattle.lists.specs.Sequence.{ticks, padded}
 use Rattle.lists.specs.Bits.{bitAt, words, packed}
-use Rattle.lists.proofs.Tests.{true-or-false, or-left, or-right, none-test, none-rest}
+use Rattle.lists.proofs.Tests.{true-or-false}
 use Rattle.lists.proofs.Sequences.{ticks-ext}
 use Rattle.lists.proofs.Columns.{bitAt-same, length-packed, packed-in}
-use Rattle.mltl.specs.Mltl.{Formula, holds, delay}
+use Rattle.mltl.specs.Mltl.{Formula, holds}
 use Rattle.table.specs.declared.Table.{Table}
 use Rattle.table.specs.Sound.{isSound, Sound, delayNumber}
-use Rattle.table.proofs.Soundness.{sound-iff, watched-short}
+use Rattle.table.proofs.Soundness.{sound-iff, rule-there}
 use Rattle.session.specs.declared.Session.{Session}
-use Rattle.session.specs.Session.{Effect, refused, unfit, seenLimit, delayOf, formulaOf, keptOf, verdictWords, feedNumber, fed, feeding, closeNumber, closed, closing, opening}
+use Rattle.session.specs.Session.{Effect, refused, unfit, verdictWords, feedNumber, fed, feeding, closeNumber, closed, closing, opening}
 
 -- a choice between an accepted effect, whose number is 0, and a refused one
 module _ (n : ℕ) (yes : Effect) (zero : yes .answer .number ≡ 0) (s : Session) (h x o : List ℕ) where
@@ -75,3 +75,22 @@ words-verdicts m count f trace o = ticks-ext (bitAt (verdictWords m count f trac
     (ap (λ (l : List ℕ). getD l (i / 64) 0) (append-assoc p z (drop m o))
     ∙ List·getD-append p (z ++ drop m o) 0 (i / 64) (omega (arith, length-packed count (holds f trace))))
     ∙ packed-in count (holds f trace) i h
+
+-- ---- an accepted open: the session, and a rule of a sound table
+pub opened-is : (t : Table) (r : ℕ) → opening t r .number ≡ 0 → opening t r .session ≡ record { table = t; rule = r; seen = 0 }
+unfolding opening
+opened-is t r e = rw (eq-eqb (delayNumber t r) 0 e)
+
+pub opened-rule : (t : Table) (r : ℕ) → opening t r .number ≡ 0 → r < t .«rule_count»
+unfolding opening
+opened-rule t r e = rule-there t r e .1
+
+pub opened-sound : (t : Table) (r : ℕ) → opening t r .number ≡ 0 → Sound t
+unfolding opening
+opened-sound t r e = rule-there t r e .0
+
+-- so it is fit
+pub opened-fit : (t : Table) (r : ℕ) → opening t r .number ≡ 0 → unfit (opening t r .session) ≡ false
+opened-fit t r e =
+    let s : isSound t ≡ true = sound-iff t .1 (opened-sound t r e) in
+    rw (opened-is t r e, s, lt-leb (t .«rule_count») r (opened-rule t r e))

@@ -3,7 +3,7 @@ ghost use mathlib.Core.Path.{_≡_};
 ghost use mathlib.Core.List.{_++_};
 ghost use Prim.Native.Nat.{_+_, _-_, _≤_, min};
 ghost use lib.ListN.{length, take, drop};
-ghost use Rattle.lists.specs.Choice.{pick, first};
+ghost use Rattle.lists.specs.Choice.{first};
 ghost use Rattle.table.specs.Nodes.{formulaAt};
 ghost use Rattle.verdict.specs.Verdict.{cleared};
 ghost use Rattle.session.specs.Session.{Effect, noSession, verdictWords, opening, feedRows, fed, feeding, closeRows, closed, closing};
@@ -172,28 +172,22 @@ fn write_verdicts(
     column::clear(&mut out[w..m]);
 }
 
-fn either(test: bool, number: u8, other: u8) -> u8
-    ensures { λ r. ⌜ r ≡ pick test number other ⌝ }
-{
-    if test { number } else { other }
-}
-
 // The number of a feed of k states, where `unfit` says whether the session is, and the buffers have these lengths.
 fn feed_number(unfit: bool, seen: u32, k: usize, history: usize, scratch: usize, out: usize) -> u8
     ensures { λ r. ⌜ r ≡ first (feedRows unfit seen k history scratch out) ⌝ }
 {
     let left = 4294967295 - seen as usize;
-    let f24 = either(left < k, 24, 0);
-    let f23 = either((history < 4095) | (scratch < 5280) | (out < 16), 23, f24);
-    let f22 = either(1024 < k, 22, f23);
-    either(unfit, 25, f22)
+    let f24 = lists::either(left < k, 24, 0);
+    let f23 = lists::either((history < 4095) | (scratch < 5280) | (out < 16), 23, f24);
+    let f22 = lists::either(1024 < k, 22, f23);
+    lists::either(unfit, 25, f22)
 }
 
 fn close_number(unfit: bool, history: usize, scratch: usize, out: usize) -> u8
     ensures { λ r. ⌜ r ≡ first (closeRows unfit history scratch out) ⌝ }
 {
-    let f23 = either((history < 4095) | (scratch < 5280) | (out < 64), 23, 0);
-    either(unfit, 25, f23)
+    let f23 = lists::either((history < 4095) | (scratch < 5280) | (out < 64), 23, 0);
+    lists::either(unfit, 25, f23)
 }
 
 // A feed that is accepted; d is the delay.

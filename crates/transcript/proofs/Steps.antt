@@ -11,14 +11,14 @@ use lib.ListN.{length, take, length-append}
 use Rattle.lists.specs.Choice.{pick}
 use Rattle.lists.specs.Sequence.{ticks}
 use Rattle.lists.specs.Bits.{bitAt}
-use Rattle.lists.proofs.Tests.{true-or-false, none-test, none-rest, or-left, or-right}
+use Rattle.lists.proofs.Tests.{true-or-false, or-left, or-right}
 use Rattle.lists.proofs.Sequences.{length-ticks}
 use Rattle.table.specs.declared.Table.{Table}
 use Rattle.table.specs.Sound.{isSound, delayNumber}
 use Rattle.table.proofs.Soundness.{sound-iff, watched-short}
 use Rattle.session.specs.declared.Session.{Session}
 use Rattle.session.specs.Session.{Effect, feeding, closing, seenLimit, unfit, opening, noSession, delayOf as delayIn}
-use Rattle.session.proofs.Effects.{feed-number, close-number}
+use Rattle.session.proofs.Effects.{opened-fit, feed-number, close-number}
 use Rattle.mission.specs.Calls.{Call, feed, close, begin, accepted-feed, accepted-close, statesFed, verdictsGiven, Going}
 use Rattle.mission.specs.Mission.{Start, sessionOf, delayOf, verdictOf}
 use Rattle.mission.proofs.ThirdDemand.{third-demand}
@@ -56,12 +56,7 @@ unseen : (m : Start) → sessionOf m .seen ≡ 0
 unseen m = opened-unseen (m .simplified .table) (m .rule)
 
 first-fit : (m : Start) → unfit (sessionOf m) ≡ false
-unfolding opening
-first-fit m =
-    let e : delayNumber (m .simplified .table) (m .rule) ≡ 0 = m .opened in
-    let a : not (isSound (m .simplified .table)) ≡ false = none-test 25 (not (isSound (m .simplified .table))) _ (omega arith) e in
-    let b = none-test 21 (leb (m .simplified .table .«rule_count») (m .rule)) 0 (omega arith) (none-rest 25 (not (isSound (m .simplified .table))) _ (omega arith) e) in
-    rw (eq-eqb (delayNumber (m .simplified .table) (m .rule)) 0 e, a, b)
+first-fit m = opened-fit (m .simplified .table) (m .rule) (m .opened)
 
 module _ (m : Start) where
   abbrev D : ℕ

@@ -7,18 +7,19 @@ use mathlib.Core.Bool.{_&&_, Bool, false, true, _||_}
 use mathlib.Core.List.{_++_, List}
 use mathlib.Core.Logic.{⊎-elim}
 use mathlib.Core.Path.{refl, ap, ap₂, sym, _∙_, _≡_}
-use borrow.Author.Tests.{le-leb, le-ltb, leb-true, lt-leb, lt-ltb, ltb-false, ltb-true}
+use borrow.Author.Tests.{le-leb, le-ltb, leb-false, leb-true, lt-leb, lt-ltb, ltb-false, ltb-true, ne-eqb, not-false}
 use borrow.Rule.Slice.PartMut.{midOf, putMid}
 use lib.Dec.{eqb, leb, ltb}
 use lib.ListN.{drop, getD, length, length-append, length-take, replicate, set, take}
 use lib.Seq.{drop-paste, getD-take, paste, paste-suc, take-all, take-paste, take-take}
 use Rattle.lists.proofs.Columns.{bitAt-same, length-packed, pack-ext, packed-in}
 use Rattle.lists.proofs.Sequences.{every-iff}
+use Rattle.lists.proofs.Rows.{no-row}
 use Rattle.lists.proofs.Tests.{_also_, lt-or-le, or-left, or-right, true-left, true-right}
 use Rattle.lists.specs.Bits.{below, bitAt, pack, packed, words}
 use Rattle.lists.specs.Sequence.{every}
 use Rattle.mltl.specs.Mltl.{holds}
-use Rattle.table.proofs.Soundness.{fits-iff}
+use Rattle.table.proofs.Soundness.{fits-iff, sound-iff}
 use Rattle.table.specs.Nodes.{formulaAt, noNode, nodeAt, ruleAt}
 use Rattle.table.specs.Sound.{Sound, fits, isSound, short}
 use Rattle.table.specs.declared.Node.{Node}
@@ -26,7 +27,7 @@ use Rattle.table.specs.declared.Table.{Table}
 use Rattle.column.proofs.Registers.{length-register}
 use Rattle.column.specs.Column.{Turned, register}
 use Rattle.verdict.specs.Steps.{Ready, Run, marked}
-use Rattle.verdict.specs.Verdict.{Answered, Judged, cleared, enough, fitsTo, numberFor, numberOf, ready, told}
+use Rattle.verdict.specs.Verdict.{Answered, Judged, cleared, enough, fitsTo, numberFor, numberOf, ready, told, wholeRows}
 
 -- ---- out and scratch
 pub copied-more : (out₀ c : List ℕ) {out : List ℕ} {x : ℕ} (w : ℕ) → w < length out₀ → w < length c → x ≡ getD c w 0 → out ≡ paste out₀ 0 c w
@@ -139,38 +140,31 @@ module _ {t : Table} {k : ℕ} {trace : List ℕ} {count : ℕ} {scratch out : L
   judged f p q = let r : ready t k trace count scratch out ≡ true = sym e ∙ f in record { answers = sym r; tells = rw r p; clears = rw r q }
 
 -- ---- the number
-pub lent-enough : {b c m : ℕ} → (ltb b 5280 || ltb c m) ≡ false → (5280 ≤ b) × (m ≤ c)
-lent-enough {b} {c} {m} e = (ltb-false b 5280 (or-left (ltb b 5280) (ltb c m) e), ltb-false c m (or-right (ltb b 5280) (ltb c m) e))
+-- no row fits
+pub record WholeFits (t : Table) (rule states scratch out : ℕ) : Type 0 where
+  pub sound : Sound t
+  pub rule-there : rule < t .«rule_count»
+  pub few-states : states ≤ 5120
+  pub scratch-words : 5280 ≤ scratch
+  pub out-words : words states ≤ out
 
-module _ (t : Table) (rule a b c : ℕ) where
-  pub not-sound : isSound t ≡ false → numberOf t rule a b c ≡ 25
-  unfolding numberOf
-  not-sound e = rw e
-
-  module _ (s : isSound t ≡ true) where
-    pub no-rule : t .«rule_count» ≤ rule → numberOf t rule a b c ≡ 21
-    unfolding numberOf
-    no-rule h = rw (s, le-leb (t .«rule_count») rule h)
-
-    module _ (l : rule < t .«rule_count») where
-      pub many-states : 5120 < a → numberOf t rule a b c ≡ 22
-      unfolding numberOf
-      many-states h = rw (s, lt-leb (t .«rule_count») rule l, lt-ltb 5120 a h)
-
-      module _ (m : a ≤ 5120) where
-        pub few-words : (ltb b 5280 || ltb c (words a)) ≡ true → numberOf t rule a b c ≡ 23
-        unfolding numberOf
-        few-words h = rw (s, lt-leb (t .«rule_count») rule l, le-ltb 5120 a m, h)
-
-        pub accepted : (ltb b 5280 || ltb c (words a)) ≡ false → numberOf t rule a b c ≡ 0
-        unfolding numberOf
-        accepted h = rw (s, lt-leb (t .«rule_count») rule l, le-ltb 5120 a m, h)
+pub whole-fits : (t : Table) (rule states scratch out : ℕ) → numberOf t rule states scratch out ≡ 0 → WholeFits t rule states scratch out
+unfolding numberOf
+whole-fits t rule states scratch out e =
+    let no = no-row (wholeRows (isSound t) (t .«rule_count») rule states scratch out) refl e in
+    record {
+      sound = sound-iff t .0 (not-false (isSound t) (no 0));
+      rule-there = leb-false (t .«rule_count») rule (no 1);
+      few-states = ltb-false 5120 states (no 2);
+      scratch-words = ltb-false scratch 5280 (or-left (ltb scratch 5280) (ltb out (words states)) (no 3));
+      out-words = ltb-false out (words states) (or-right (ltb scratch 5280) (ltb out (words states)) (no 3));
+    }
 
 module _ {t : Table} {rule : ℕ} {states scratch out : List ℕ} where
-  pub refuses : {r : ℕ} → numberFor t rule states scratch out ≡ r → eqb r 0 ≡ false → Answered t rule states scratch out r scratch out
+  pub refuses : {r : ℕ} → r ≡ numberFor t rule states scratch out → (r ≡ 0 → ⊥) → Answered t rule states scratch out r scratch out
   refuses {r} e z =
-      let q : eqb (numberFor t rule states scratch out) 0 ≡ false = ap (λ (x : ℕ). eqb x 0) e ∙ z in
-      record { answers = sym e; tells = rw q; clears = rw q }
+      let q : eqb (numberFor t rule states scratch out) 0 ≡ false = ap (λ (x : ℕ). eqb x 0) (sym e) ∙ ne-eqb r 0 z in
+      record { answers = e; tells = rw q; clears = rw q }
 
   pub accepts : {r : Bool} {scratch′ out′ : List ℕ} → numberFor t rule states scratch out ≡ 0
       → ready t (ruleAt t rule .watched) states (length states) scratch out ≡ true → Judged t (ruleAt t rule .watched) states (length states) scratch out r scratch′ out′

@@ -1,16 +1,16 @@
 -- The verdicts of a formula on a whole trace, as words: bit t is the verdict of tick t, and the unused bits of the last word are clear.
 use Prim.Native.Nat.{ℕ, _+_}
 use mathlib.Core.Path.{_≡_}
-use mathlib.Core.Bool.{Bool, not, _&&_, _||_}
+use mathlib.Core.Bool.{Bool, _&&_, _||_}
 use mathlib.Core.List.{List, [], _∷_, _++_}
 use lib.Dec.{ltb, leb, eqb}
 use lib.ListN.{length, take, drop, replicate}
 use Rattle.lists.specs.Bits.{words, packed}
-use Rattle.lists.specs.Choice.{pick, _if_, first}
+use Rattle.lists.specs.Choice.{Row, pick, _if_, first}
 use Rattle.lists.specs.Sequence.{every}
 use Rattle.mltl.specs.Mltl.{Formula, holds}
 use Rattle.table.specs.Nodes.{formulaAt, watchedFormula}
-use Rattle.table.specs.Sound.{fits, isSound}
+use Rattle.table.specs.Sound.{fits, isSound, ruleRows}
 use Rattle.table.specs.declared.Table.{Table}
 
 -- ---- the buffers after an accepted call
@@ -41,11 +41,13 @@ pub record Judged (t : Table) (k : ℕ) (trace : List ℕ) (count : ℕ) (scratc
   pub clears : scratch′ ≡ pick (ready t k trace count scratch out) (cleared scratch) scratch
 
 -- ---- the formula that a rule watches
--- 25 a table that is not sound, 21 no such rule, 22 too many states, 23 too few words lent, and else 0
+-- its rows of refusals: those of a call for a rule, 22 too many states, 23 too few words lent
+abbrev pub wholeRows : Bool → ℕ → ℕ → ℕ → ℕ → ℕ → List Row
+wholeRows sound count rule states scratch out =
+    ruleRows sound count rule ++ ((22 if ltb 5120 states) ∷ (23 if (ltb scratch 5280 || ltb out (words states))) ∷ [])
+
 unfoldable pub numberOf : Table → ℕ → ℕ → ℕ → ℕ → ℕ
-numberOf t rule states scratch out =
-    first
-    ((25 if not (isSound t)) ∷ (21 if leb (t .«rule_count») rule) ∷ (22 if ltb 5120 states) ∷ (23 if (ltb scratch 5280 || ltb out (words states))) ∷ [])
+numberOf t rule states scratch out = first (wholeRows (isSound t) (t .«rule_count») rule states scratch out)
 
 abbrev pub numberFor : Table → ℕ → List ℕ → List ℕ → List ℕ → ℕ
 numberFor t rule states scratch out = numberOf t rule (length states) (length scratch) (length out)

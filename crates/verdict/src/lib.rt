@@ -7,13 +7,13 @@ ghost use lib.Dec.{eqb};
 ghost use lib.ListN.{length, getD};
 ghost use lib.Seq.{paste};
 ghost use Rattle.lists.specs.Bits.{bitAt, words, below};
-ghost use Rattle.lists.specs.Choice.{pick};
+ghost use Rattle.lists.specs.Choice.{pick, first};
 ghost use Rattle.mltl.specs.Mltl.{eventually, opposite};
 ghost use Rattle.column.specs.Column.{register, Laid, flipped, filled};
 ghost use Rattle.pair.specs.Pair.{both};
 ghost use Rattle.moves.specs.Moves.{moved};
 ghost use Rattle.signal.specs.Signal.{signalColumn};
-ghost use Rattle.verdict.specs.Verdict.{told, cleared, fitsTo, enough, Judged, Answered};
+ghost use Rattle.verdict.specs.Verdict.{told, cleared, fitsTo, enough, Judged, wholeRows, Answered};
 ghost use Rattle.table.specs.Nodes.{formulaAt};
 ghost use Rattle.verdict.specs.Windows.{widthOf, Interval, Eventually, Always, First, Pair, third, Three, OfThree, untilOf, releaseOf};
 ghost use Rattle.verdict.specs.Steps.{Place, Operand, Step, Maybe, columnIn, Computable, Grown, Needs, Run, Runnable, Ready};
@@ -448,30 +448,44 @@ pub fn judge(
     false
 }
 
-// The numbers of the refusals.
-const NOT_SOUND: u8 = 25;
+// How many words n bits take.
+fn words_of(n: usize) -> usize
+    ensures { λ r. ⌜ r ≡ words n ⌝ }
+{
+    n / 64 + (n % 64 + 63) / 64
+}
 
-const NO_RULE: u8 = 21;
-
-const MANY_STATES: u8 = 22;
-
-const FEW_WORDS: u8 = 23;
+// The number of a call on so many states, for a rule of a table that is sound or not and has `count` rules; the buffers have these lengths.
+fn whole_number(
+    sound: bool,
+    count: usize,
+    rule: usize,
+    states: usize,
+    scratch: usize,
+    out: usize,
+) -> u8
+    ensures { λ r. ⌜ r ≡ first (wholeRows sound count rule states scratch out) ⌝ }
+{
+    let f23 = lists::either((scratch < 5280) | (out < words_of(states)), 23, 0);
+    let f22 = lists::either(5120 < states, 22, f23);
+    let f21 = lists::either(count <= rule, 21, f22);
+    lists::either(!sound, 25, f21)
+}
 
 // The verdicts of what a rule watches on a whole trace: 0, or the number of the refusal.
 pub fn verdicts(t: Table, rule: usize, states: &[u32], scratch: &mut [u64], out: &mut [u64]) -> u8
     ensures { λ r. ⌜ Answered t rule (now (states .entry)) (now (scratch .entry)) (now (out .entry)) r (now (scratch .exit)) (now (out .exit)) ⌝ }
 {
-    if !table::sound(t) {
-        return NOT_SOUND;
-    }
-    if t.rule_count <= rule {
-        return NO_RULE;
-    }
-    if 5120 < states.len() {
-        return MANY_STATES;
-    }
-    if (scratch.len() < 5280) | (out.len() < (states.len() + 63) / 64) {
-        return FEW_WORDS;
+    let number = whole_number(
+        table::sound(t),
+        t.rule_count,
+        rule,
+        states.len(),
+        scratch.len(),
+        out.len(),
+    );
+    if number != 0 {
+        return number;
     }
     let k = t.rules[rule].watched as usize;
     judge(t, k, &states[0..0], states, states.len(), scratch, out);

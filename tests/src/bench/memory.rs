@@ -50,7 +50,8 @@ fn stack_of(_: impl FnMut()) -> Option<usize> {
 
 /// A session that has seen `seen` states, and its buffers.
 fn under_way(table: &TableBytes, seen: usize) -> (SessionBytes, Buffers) {
-    let (mut s, mut b) = (library::open(table, 0, 0).1, Buffers::default());
+    let (mut s, mut b) = ([0; library::SESSION], Buffers::default());
+    assert_eq!(library::open(table, 0, &mut s), 0);
     for block in dense(seen).chunks(BLOCK) {
         library::feed(&mut s, block, &mut b.history, &mut b.scratch, &mut b.out);
     }
@@ -64,9 +65,9 @@ fn stacks_of(t: &Table) -> [Option<usize>; 6] {
     let (mut session, mut b) = under_way(&bytes, 5000);
     let (mut ended, mut table, mut opened, mut out) = (session, bytes, session, [0; 80]);
     [
-        stack_of(|| assert_eq!(library::read_into(&book, &mut table), 0)),
+        stack_of(|| assert_eq!(library::read(&book, &mut table), (0, 0))),
         stack_of(|| assert_eq!(library::simplify(&mut table), 0)),
-        stack_of(|| assert_eq!(library::open_into(&bytes, 0, &mut opened), 0)),
+        stack_of(|| assert_eq!(library::open(&bytes, 0, &mut opened), 0)),
         stack_of(|| assert_eq!(library::feed(&mut session, &states[..BLOCK], &mut b.history, &mut b.scratch, &mut b.out).0, 0)),
         stack_of(|| assert_eq!(library::close(&mut ended, &b.history, &mut b.scratch, &mut b.out).0, 0)),
         stack_of(|| assert_eq!(library::verdicts(&bytes, 0, &states, &mut b.scratch, &mut out), 0)),

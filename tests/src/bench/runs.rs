@@ -43,7 +43,8 @@ fn accepted<T>((number, answer): (u32, T)) -> T {
 
 impl Sessions for Proved {
     fn open(table: &TableBytes) -> SessionBytes {
-        accepted(library::open(table, 0, 0))
+        let mut s = [0; library::SESSION];
+        accepted((library::open(table, 0, &mut s), s))
     }
     fn feed(s: &mut SessionBytes, block: &[u32], b: &mut Buffers) -> u32 {
         accepted(library::feed(s, block, &mut b.history, &mut b.scratch, &mut b.out))
@@ -55,7 +56,8 @@ impl Sessions for Proved {
 
 impl Sessions for Twin {
     fn open(table: &TableBytes) -> SessionBytes {
-        accepted(twin::open(table, 0))
+        let mut s = [0; library::SESSION];
+        accepted((twin::open(table, 0, &mut s), s))
     }
     fn feed(s: &mut SessionBytes, block: &[u32], b: &mut Buffers) -> u32 {
         accepted(twin::feed(s, block, &mut b.history, &mut b.scratch, &mut b.out))

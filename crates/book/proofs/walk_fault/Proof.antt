@@ -1,6 +1,6 @@
 -- Each test, and the choices from the last to the first. Assumes nothing.
 use mathlib.Core.Path.{refl}
-use Rattle.lists.proofs.Tests.{row-more}
+use Rattle.lists.proofs.Rows.{row-more}
 use Rattle.book.specs.Steps.{walkFault}
 use borrow.Author.Needs.{needs}
 use Rattle.book.proofs.walk_fault.Statement.{statement}

@@ -1,73 +1,56 @@
--- `verdict::verdicts` meets its contract. Assumes nothing.
-use Prim.Native.Nat.{_<_}
+-- The number decides; of a call that is accepted the evaluator is ready. Assumes nothing.
+use Prim.Native.Nat.{ℕ, _<_}
 use native.Mathlib.Omega.{arith}
-use mathlib.Core.Bool.{true}
-use mathlib.Core.Path.{refl, sym, _∙_, _≡_}
+use mathlib.Core.Path.{sym, ap, _∙_, _≡_}
+use mathlib.Core.Bool.{Bool}
 use borrow.Author.Needs.{needs}
-use borrow.Author.Tests.{not-false, not-true}
 use lib.ListN.{length}
-use Rattle.table.proofs.Soundness.{sound-iff}
+use Rattle.lists.specs.Choice.{first}
 use Rattle.table.specs.Nodes.{ruleAt}
-use Rattle.table.specs.Sound.{Sound, isSound}
-use Rattle.verdict.proofs.Answers.{accepted, accepts, few-words, lent-enough, many-states, no-rule, not-sound, ready-sound, refuses}
+use Rattle.verdict.specs.Verdict.{numberOf, numberFor, wholeRows}
+use Rattle.verdict.proofs.Answers.{accepts, ready-sound, refuses, WholeFits, whole-fits}
 use Rattle.verdict.proofs.verdicts.Statement.{statement}
 use Rattle.verdict.proofs.verdicts.Tie as tie
 
-returns : tie.Need-returns
-returns c =
-    let a = c .before .before .before .before .before .args in
-    refuses (not-sound (a .t1) (a .rule) _ _ _ (sym (c .before .sound .ensures) ∙ not-true _ (c .if1 .taken))) refl
+abbrev start : tie.After-whole-number → tie.Start
+start c = c .before .before .before .before .before
 
--- what the tests have shown: the table is sound, the rule is one of its rules, and that watches a node
-sound-left : (c : tie.Else1) → isSound (c .before .before .before .before .before .args .t1) ≡ true
-sound-left c = sym (c .before .sound .ensures) ∙ not-false _ (c .if1 .left)
+number : (c : tie.After-whole-number) → let a = start c .args in c .whole-number .result ≡ numberFor (a .t1) (a .rule) (a .states .now) (a .scratch .now) (a .out .now)
+unfolding numberOf
+number c =
+    let a = start c .args in
+    c .whole-number .ensures
+    ∙ ap (λ (b : Bool). first (wholeRows b (a .t1 .«rule_count») (a .rule) (length (a .states .now)) (length (a .scratch .now)) (length (a .out .now))))
+    (c .before .sound .ensures)
+
+returns : tie.Need-returns
+returns c = refuses (number (c .before)) (c .if1 .taken)
+
+-- no row fits
+fit : (c : tie.Else1) → let a = start (c .before) .args in WholeFits (a .t1) (a .rule) (length (a .states .now)) (length (a .scratch .now)) (length (a .out .now))
+fit c =
+    let a = start (c .before) .args in
+    whole-fits (a .t1) (a .rule) (length (a .states .now)) (length (a .scratch .now)) (length (a .out .now)) (sym (number (c .before)) ∙ c .if1 .left)
+
+few : (c : tie.Else1) → start (c .before) .args .rule < 8
+few c = let f = fit c in omega (arith, f .sound .few-rules, f .rule-there)
+
+node : (c : tie.Else1) → let a = start (c .before) .args in ruleAt (a .t1) (a .rule) .watched < 64
+node c = let f = fit c in omega (arith, f .sound .few-nodes, f .sound .rule (start (c .before) .args .rule) (f .rule-there) .watched)
 
 returns-2 : tie.Need-returns-2
 returns-2 c =
-    let a = c .before .before .before .before .before .before .args in
-    refuses (no-rule (a .t1) (a .rule) _ _ _ (sound-left (c .before)) (c .if2 .taken)) refl
-
-returns-3 : tie.Need-returns-3
-returns-3 c =
-    let a = c .before .before .before .before .before .before .before .args in
-    refuses (many-states (a .t1) (a .rule) _ _ _ (sound-left (c .before .before)) (c .before .if2 .left) (c .if3 .taken)) refl
-
-returns-4 : tie.Need-returns-4
-returns-4 c =
-    let a = c .before .before .before .before .before .before .before .before .args in
-    refuses (few-words (a .t1) (a .rule) _ _ _ (sound-left (c .before .before .before)) (c .before .before .if2 .left) (c .before .if3 .left) (c .if4 .taken)) refl
-
-sound-there : (c : tie.Else4) → Sound (c .before .before .before .before .before .before .before .before .args .t1)
-sound-there c = sound-iff (c .before .before .before .before .before .before .before .before .args .t1) .0 (sound-left (c .before .before .before))
-
-few : (c : tie.Else4) → c .before .before .before .before .before .before .before .before .args .rule < 8
-few c = let f = sound-there c .few-rules in omega (arith, c .before .before .if2 .left)
-
-node : (c : tie.Else4) → ruleAt (c .before .before .before .before .before .before .before .before .args .t1) (c .before .before .before .before .before .before .before .before .args .rule) .watched < 64
-node c = let s = sound-there c in let n = s .few-nodes in omega (arith, s .rule (c .before .before .before .before .before .before .before .before .args .rule) (c .before .before .if2 .left) .watched)
-
-returns-5 : tie.Need-returns-5
-returns-5 c =
-    let e = c .before .before .before .before .before .before .before .before in
-    let a = e .before .before .before .before .before .before .before .before .args in
-    let s = sound-there e in
-    let l = e .before .before .if2 .left in
-    let w = lent-enough (e .if4 .left) in
-    accepts (accepted (a .t1) (a .rule) _ _ _ (sound-left (e .before .before .before)) l (e .before .if3 .left) (e .if4 .left))
-    (ready-sound (a .t1) (ruleAt (a .t1) (a .rule) .watched) (a .states .now) (length (a .states .now)) (a .scratch .now) (a .out .now) (s .places) s (s .rule (a .rule) l .watched) (e .before .if3 .left) (omega arith) (w .0) (w .1)) (c .before .before .before .before .judge .ensures)
+    let j = c .before .before .before .before in
+    let e = j .before .before .before .before in
+    let a = start (e .before) .args in
+    let f = fit e in
+    accepts (sym (number (e .before)) ∙ e .if1 .left)
+    (ready-sound (a .t1) (ruleAt (a .t1) (a .rule) .watched) (a .states .now) (length (a .states .now)) (a .scratch .now) (a .out .now) (f .sound .places) (f .sound)
+    (f .sound .rule (a .rule) (f .rule-there) .watched) (f .few-states) (omega arith) (f .scratch-words) (f .out-words))
+    (j .judge .ensures)
 
 pub verdicts-spec : {M : Type 1} → statement M
 verdicts-spec =
     tie.close
-    (tie.spec
-    (search needs)
-    returns
-    returns-2
-    returns-3
-    (search needs)
-    returns-4
-    (λ c. omega (arith, few c))
-    few
-    (λ c. omega (arith, node c))
-    (search needs) (search needs) (search needs) (search needs) (search needs) (search needs)
-    returns-5)
+    (tie.spec (search needs) (search needs) returns (λ c. omega (arith, few c)) few (λ c. omega (arith, node c)) (search needs) (search needs) (search needs)
+    (search needs) (search needs) (search needs) returns-2)

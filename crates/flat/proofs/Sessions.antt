@@ -1,18 +1,23 @@
--- A session's bytes and back: `read-session`, that a fit session is what its bytes hold. Assumes nothing.
+-- A session's bytes and back: `session-back`, that a session over a sound table is what its bytes hold, and `renewed-back`, that with
+-- another count of states they hold the session with that count. Assumes nothing.
 use Prim.Native.Nat.{ℕ, _+_, _*_, _/_, _%_, _≤_, _<_}
-use native.Mathlib.Nat.{div-div-eq-div-mul}
+use native.Mathlib.Nat.{add-zero, div-div-eq-div-mul}
 use native.Mathlib.Omega.{arith}
 use mathlib.Core.Path.{_≡_, sym, ap, _∙_}
+use mathlib.Core.Bool.{Bool}
 use mathlib.Core.List.{List, _++_}
 use lib.ListN.{length, getD, take, drop, set, length-append, length-drop, length-set, take-append-drop}
 use lib.Seq.{getD-set-same, getD-set-other, take-set-le, take-at}
-use borrow.Author.Tests.{eq-eqb}
+use borrow.Author.Tests.{eq-eqb, ne-eqb}
 use Rattle.lists.proofs.Sequences.{length-ticks}
+use Rattle.table.specs.declared.Table.{Table}
+use Rattle.table.specs.Nodes.{noTable}
 use Rattle.table.specs.Sound.{Sound}
 use Rattle.flat.specs.Flat.{tableByte, tableBytes, tableFrom, written}
-use Rattle.flat.proofs.Laws.{read-written, written-is}
+use Rattle.flat.proofs.Laws.{read-written, written-is, same-table}
 use Rattle.session.specs.declared.Session.{Session}
-use Rattle.capi.specs.Answers.{fourAt, putFour, sessionFrom, sessionWritten}
+use Rattle.session.specs.Session.{withSeen}
+use Rattle.flat.specs.Sessions.{fourAt, putFour, sessionFrom, sessionWritten, renewed}
 
 module _ (b : List ℕ) (at x : ℕ) where
   -- the list after one, two and three bytes
@@ -62,22 +67,38 @@ module _ (b : List ℕ) (at x : ℕ) where
       getD-set-other b₃ (at + 3) j (x / 16777216 % 256) 0 s ∙ getD-set-other b₂ (at + 2) j (x / 65536 % 256) 0 r
       ∙ getD-set-other b₁ (at + 1) j (x / 256 % 256) 0 q ∙ getD-set-other b at j (x % 256) 0 p
 
-  pub four-other : (j : ℕ) → j + 4 ≤ at → fourAt (putFour b at x) j ≡ fourAt b j
-  four-other j h =
-      let e : (i : ℕ) → i < 4 → getD (putFour b at x) (j + i) 0 ≡ getD b (j + i) 0 =
-      λ i l. stays (j + i) (λ p. omega arith) (λ p. omega arith) (λ p. omega arith) (λ p. omega arith) in
-      let e₀ : getD (putFour b at x) j 0 ≡ getD b j 0 = stays j (λ p. omega arith) (λ p. omega arith) (λ p. omega arith) (λ p. omega arith) in
+  -- four bytes of which none was written
+  others : (j : ℕ) → ((i : ℕ) → i < 4 → getD (putFour b at x) (j + i) 0 ≡ getD b (j + i) 0) → fourAt (putFour b at x) j ≡ fourAt b j
+  others j e =
+      let e₀ : getD (putFour b at x) j 0 ≡ getD b j 0 = rw add-zero at (e 0 (omega arith)) in
       rw (e₀, e 1 (omega arith), e 2 (omega arith), e 3 (omega arith))
+
+  pub four-before : (j : ℕ) → j + 4 ≤ at → fourAt (putFour b at x) j ≡ fourAt b j
+  four-before j h = others j λ i l. stays (j + i) (λ p. omega arith) (λ p. omega arith) (λ p. omega arith) (λ p. omega arith)
+
+  pub four-behind : (j : ℕ) → at + 4 ≤ j → fourAt (putFour b at x) j ≡ fourAt b j
+  four-behind j h = others j λ i l. stays (j + i) (λ p. omega arith) (λ p. omega arith) (λ p. omega arith) (λ p. omega arith)
 
   pub take-four : (n : ℕ) → n ≤ at → take n (putFour b at x) ≡ take n b
   take-four n h =
       take-set-le n b₃ (at + 3) (x / 16777216 % 256) (omega arith) ∙ take-set-le n b₂ (at + 2) (x / 65536 % 256) (omega arith)
       ∙ take-set-le n b₁ (at + 1) (x / 256 % 256) (omega arith) ∙ take-set-le n b at (x % 256) h
 
-pub read-session : (s : Session) (b : List ℕ) → length b ≡ 558 → Sound (s .table) → s .rule < 4294967296 → s .seen < 4294967296
+-- ---- the answers of `read_session`
+module _ (b : List ℕ) {rule seen high : ℕ} (p : rule ≡ fourAt b 546) (q : seen ≡ fourAt b 550) (h : high ≡ fourAt b 554) where
+  pub from-many : {t : Table} → (high ≡ 0 → ⊥) → t ≡ noTable → _≡_ {A = Session} (record { table = t; rule = rule; seen = seen }) (sessionFrom b)
+  unfolding sessionFrom
+  from-many n e = rw (e, p, q, ne-eqb (fourAt b 554) 0 (λ z. n (h ∙ z)))
+
+  pub from-few : {t : Table} → high ≡ 0 → t ≡ tableFrom b → _≡_ {A = Session} (record { table = t; rule = rule; seen = seen }) (sessionFrom b)
+  unfolding sessionFrom
+  from-few n e = rw (e, p, q, eq-eqb (fourAt b 554) 0 (sym h ∙ n))
+
+-- ---- back from bytes
+pub session-back : (s : Session) (b : List ℕ) → length b ≡ 558 → Sound (s .table) → s .rule < 4294967296 → s .seen < 4294967296
     → sessionFrom (sessionWritten s b) ≡ s
 unfolding sessionFrom sessionWritten
-read-session s b l t r n =
+session-back s b l t r n =
     let w : List ℕ = written (s .table) b in
     let rule : ℕ = s .rule % 4294967296 in
     let p₁ : List ℕ = putFour w 546 rule in
@@ -90,12 +111,20 @@ read-session s b l t r n =
     let l₁ : length p₁ ≡ 558 = length-four w 546 rule ∙ lw in
     let l₂ : length p₂ ≡ 558 = length-four p₁ 550 (s .seen) ∙ l₁ in
     let high : fourAt p₃ 554 ≡ 0 = four-same p₂ 554 0 (omega arith) (omega arith) in
-    let seen : fourAt p₃ 550 ≡ s .seen = four-other p₂ 554 0 550 (omega arith) ∙ four-same p₁ 550 (s .seen) (omega arith) n in
+    let seen : fourAt p₃ 550 ≡ s .seen = four-before p₂ 554 0 550 (omega arith) ∙ four-same p₁ 550 (s .seen) (omega arith) n in
     let rules : fourAt p₃ 546 ≡ s .rule =
-    four-other p₂ 554 0 546 (omega arith) ∙ four-other p₁ 550 (s .seen) 546 (omega arith) ∙ four-same w 546 rule (omega arith) (omega arith) ∙ omega arith in
+    four-before p₂ 554 0 546 (omega arith) ∙ four-before p₁ 550 (s .seen) 546 (omega arith) ∙ four-same w 546 rule (omega arith) (omega arith) ∙ omega arith in
     let first : take 546 p₃ ≡ tb =
     take-four p₂ 554 0 546 (omega arith) ∙ take-four p₁ 550 (s .seen) 546 (omega arith) ∙ take-four w 546 rule 546 (omega arith) ∙ ap (take 546) is
     ∙ take-at tb (drop 546 b) 546 lt in
     let table : tableFrom p₃ ≡ s .table =
     ap tableFrom (sym (take-append-drop 546 p₃) ∙ ap (λ (i : List ℕ). i ++ drop 546 p₃) first) ∙ read-written (s .table) (drop 546 p₃) t in
     rw (eq-eqb (fourAt p₃ 554) 0 high) (λ i. record { table = table i; rule = rules i; seen = seen i })
+
+pub renewed-back : (b : List ℕ) (n : ℕ) → length b ≡ 558 → n < 4294967296 → sessionFrom (renewed n b) ≡ withSeen (sessionFrom b) n
+unfolding sessionFrom
+renewed-back b n l h =
+    let seen : fourAt (renewed n b) 550 ≡ n = four-same b 550 n (omega arith) h in
+    let table : tableFrom (renewed n b) ≡ tableFrom b =
+    same-table (renewed n b) b (take-four b 550 n 546 (omega arith)) (omega (arith, length-four b 550 n)) (omega arith) in
+    rw (four-behind b 550 n 554 (omega arith), four-before b 550 n 546 (omega arith), seen, table)

@@ -1,0 +1,140 @@
+-- The third demand for C programs: they hold a session as bytes, and get an answer as one number. A list of calls of juntreak_feed and
+-- juntreak_close, on a session that juntreak_read, juntreak_simplify and juntreak_open led to, is a list of calls of crate mission.
+use Prim.Native.Nat.{ℕ, _/_, _%_, _<_}
+use mathlib.Core.Path.{_≡_}
+use mathlib.Core.Logic.{_↔_}
+use mathlib.Core.Bool.{Bool, true, false}
+use mathlib.Core.List.{List, [], _∷_, _++_, map}
+use lib.ListN.{length}
+use Rattle.lists.specs.Choice.{someFits}
+use Rattle.mltl.specs.Mltl.{holds, delay}
+use Rattle.table.specs.Nodes.{watchedFormula}
+use Rattle.book.specs.Entries.{Bytes}
+use Rattle.book.specs.Reading.{reading, codeOf}
+use Rattle.session.specs.declared.Session.{Session}
+use Rattle.session.specs.Session.{Effect, opening, feeding, closing}
+use Rattle.flat.specs.Flat.{tableFrom, written}
+use Rattle.flat.specs.Sessions.{sessionFrom, sessionWritten}
+use Rattle.capi.specs.Answers.{leaves, Simplifies, Called}
+use Rattle.mission.specs.Calls.{Exchange, statesFed, verdictsGiven, Meets, Claim}
+use Rattle.mission.specs.Calls as mission
+use Rattle.mission.specs.Mission.{rowsOf}
+
+-- ---- one call
+-- what a call was given: the session's 558 bytes, history, scratch and out; its answer, and what it left in these
+pub record Lent : Type 0 where
+  pub session : List ℕ
+  pub size : length session ≡ 558
+  pub history : List ℕ
+  pub scratch : List ℕ
+  pub out : List ℕ
+  pub answer : ℕ
+  pub session′ : List ℕ
+  pub history′ : List ℕ
+  pub scratch′ : List ℕ
+  pub out′ : List ℕ
+
+pub data Call : Type 0 where
+  feed : List ℕ → Lent → Call
+  close : Lent → Call
+
+abbrev pub lent : Call → Lent
+lent (feed block l) = l
+lent (close l) = l
+
+-- what the contract of juntreak_feed, and that of juntreak_close, says
+abbrev pub Contract : Call → Type 0
+Contract (feed block l) =
+    Called (feeding (sessionFrom (l .session)) block (l .history) (l .scratch) (l .out)) (l .session) (l .answer) (l .session′) (l .history′) (l .scratch′) (l .out′)
+Contract (close l) =
+    Called (closing (sessionFrom (l .session)) (l .history) (l .scratch) (l .out)) (l .session) (l .answer) (l .session′) (l .history′) (l .scratch′) (l .out′)
+
+-- the number and the count that an answer holds
+abbrev pub number : Call → ℕ
+number c = lent c .answer % 4294967296
+
+abbrev pub count : Call → ℕ
+count c = lent c .answer / 4294967296
+
+-- the call as one of crate mission: the sessions are those that the bytes hold, before and after
+abbrev pub exchanged : Call → Exchange
+exchanged c = record {
+  session = sessionFrom (lent c .session);
+  history = lent c .history;
+  scratch = lent c .scratch;
+  out = lent c .out;
+  effect = record {
+    answer = record { number = number c; count = count c; session = sessionFrom (lent c .session′) };
+    history = lent c .history′;
+    scratch = lent c .scratch′;
+    out = lent c .out′;
+  };
+}
+
+abbrev pub asCall : Call → mission.Call
+asCall (feed block l) = mission.feed block (exchanged (feed block l))
+asCall (close l) = mission.close (exchanged (close l))
+
+-- ---- lists of calls
+abbrev pub isClose : Call → Bool
+isClose (feed block l) = false
+isClose (close l) = true
+
+-- The calls, the bytes and the history that they have come to, and whether a close was accepted. An accepted call is given the list's own
+-- bytes and history, as the last accepted call left them; a refused one may be given any.
+pub data Calls (first start : List ℕ) : List Call → List ℕ → List ℕ → Bool → Type 0 where
+  begin : Calls first start [] first start false
+  accepted : {cs : List Call} (c : Call) → Calls first start cs (lent c .session) (lent c .history) false → Contract c → number c ≡ 0
+      → Calls first start (cs ++ (c ∷ [])) (lent c .session′) (lent c .history′) (isClose c)
+  refused : {cs : List Call} {b h : List ℕ} {ended : Bool} (c : Call) → Calls first start cs b h ended → Contract c → (number c ≡ 0 → ⊥)
+      → Calls first start (cs ++ (c ∷ [])) b h ended
+
+-- ---- the start: three calls that answered 0, as their contracts say; what a buffer held before is `old`
+pub record Start : Type 0 where
+  pub book : List ℕ
+  pub bytes : Bytes book
+  -- juntreak_read
+  pub read : codeOf (reading book) ≡ 0
+  pub old-table : List ℕ
+  pub table-size : length old-table ≡ 546
+  pub table : List ℕ
+  pub was-read : table ≡ leaves (reading book .number) (written (reading book .table) old-table) old-table
+  -- juntreak_simplify
+  pub simple : List ℕ
+  pub simplified : Simplifies table 0 simple
+  -- juntreak_open
+  pub rule : ℕ
+  pub opened : 0 ≡ opening (tableFrom simple) rule .number
+  pub old-session : List ℕ
+  pub session-size : length old-session ≡ 558
+  pub session : List ℕ
+  pub was-opened : session ≡ leaves (opening (tableFrom simple) rule .number) (sessionWritten (opening (tableFrom simple) rule .session) old-session) old-session
+  -- any history
+  pub history : List ℕ
+
+-- the verdict of the rule as it stood in the book, and D, the delay of the rule in the simplified table
+abbrev pub verdictOf : Start → List ℕ → ℕ → Bool
+verdictOf m = holds (watchedFormula (reading (m .book) .table) (m .rule))
+
+abbrev pub delayOf : Start → ℕ
+delayOf m = delay (watchedFormula (tableFrom (m .simple)) (m .rule))
+
+-- ---- the third demand
+-- a refused call writes nothing
+pub record Untouched (l : Lent) : Type 0 where
+  pub session : l .session′ ≡ l .session
+  pub history : l .history′ ≡ l .history
+  pub scratch : l .scratch′ ≡ l .scratch
+  pub out : l .out′ ≡ l .out
+
+pub record ForeignDemand : Type 0 where
+  -- what holds of every list of calls
+  pub claim : (m : Start) (cs : List Call) (b h : List ℕ) (ended : Bool) → Calls (m .session) (m .history) cs b h ended
+      → Claim (verdictOf m) (delayOf m) (m .history) ended h (statesFed (map asCall cs)) (verdictsGiven (map asCall cs))
+  -- the bytes after a call hold the session that the call handed back: it is a call of crate mission
+  pub calls : (c : Call) → Contract c → Meets (asCall c)
+  -- after an accepted close they hold the session that open gave
+  pub reopened : (m : Start) (cs : List Call) (b h : List ℕ) → Calls (m .session) (m .history) cs b h true → sessionFrom b ≡ sessionFrom (m .session)
+  -- a call is refused exactly where a row fits it, and then writes nothing
+  pub refusals : (c : Call) → Contract c → (¬ (number c ≡ 0)) ↔ (someFits (rowsOf (asCall c)) ≡ true)
+  pub untouched : (c : Call) → Contract c → (number c ≡ 0 → ⊥) → Untouched (lent c)

@@ -1,0 +1,2 @@
+-- calls of the C interface, and the third demand for them
+pub mod Demand
