@@ -84,6 +84,14 @@ fn random_tables_on_long_traces() {
     }
 }
 
+/// A temporal node at place 2, over signal 0 and, where it has two operands, signal 1.
+fn temporal(kind: u8, lo: u16, hi: u16) -> Table {
+    let signal = |arg| Node { kind: 1, arg, lo: 0, hi: 0, left: 0, right: 0 };
+    let right = if kind >= 9 { 1 } else { 0 };
+    let node = Node { kind, arg: 0, lo, hi, left: 0, right };
+    Table { nodes: vec![signal(0), signal(1), node], rules: vec![Rule { name: 1, watched: 2 }] }
+}
+
 /// Each temporal kind at chosen limits: word limits, single points, the longest intervals.
 #[test]
 fn intervals_at_the_limits() {
@@ -95,10 +103,7 @@ fn intervals_at_the_limits() {
                 if lo > hi {
                     continue;
                 }
-                let signal = |arg| Node { kind: 1, arg, lo: 0, hi: 0, left: 0, right: 0 };
-                let right = if kind >= 9 { 1 } else { 0 };
-                let node = Node { kind, arg: 0, lo, hi, left: 0, right };
-                let t = Table { nodes: vec![signal(0), signal(1), node], rules: vec![Rule { name: 1, watched: 2 }] };
+                let t = temporal(kind, lo, hi);
                 let wide = r.below(5121) as usize;
                 for n in [0, 1, 64, 200, wide, 5120] {
                     let states = trace(&mut r, n);
@@ -109,6 +114,105 @@ fn intervals_at_the_limits() {
                 }
             }
         }
+    }
+}
+
+/// The bits of signals 0 and 1 while nothing decides a window: F waits for a set signal 0 and G for a clear one; U waits for a set signal 1 or a clear
+/// signal 0, and R for the opposites.
+fn quiet(kind: u8) -> u32 {
+    [0, 1, 1, 2][kind as usize - 7]
+}
+
+/// The bit of the signal whose change turns a verdict over; U and R also end their search at a change of signal 0.
+fn turning(kind: u8) -> u32 {
+    if kind >= 9 {
+        2
+    } else {
+        1
+    }
+}
+
+/// States in which signals 0 and 1 are rarely anything but quiet: one of them changes, or both at once. The other signals are random.
+fn quiet_trace(r: &mut Random, kind: u8, n: usize) -> Vec<u32> {
+    let rare = r.pick(&[300, 1_000, 3_000, 10_000]);
+    (0..n)
+        .map(|_| {
+            let changed = if r.chance(rare) { 1 + r.below(3) as u32 } else { 0 };
+            (r.next() as u32 & !3) | (quiet(kind) ^ changed)
+        })
+        .collect()
+}
+
+/// How the verdicts of one kind were decided.
+#[derive(Debug, Default)]
+struct Decided {
+    yes: u64,
+    no: u64,
+    /// By a tick more than 1,000 ticks after the start of the window.
+    far: u64,
+    /// Of those, by the last tick: a window one tick shorter has the other verdict.
+    last: u64,
+    /// By none of more than 1,000 ticks.
+    none: u64,
+    /// Of those, where a window one tick longer has the other verdict.
+    beyond: u64,
+}
+
+impl Decided {
+    fn count(&mut self, kind: u8, (lo, hi): (usize, usize), states: &[u32], got: &[bool]) {
+        let n = states.len();
+        let changed = |i: usize, signals: u32| (states[i] ^ quiet(kind)) & signals != 0;
+        // For each tick the first one at or after it that ends a search.
+        let mut ends = vec![n; n + 1];
+        for i in (0..n).rev() {
+            ends[i] = if changed(i, 1 | turning(kind)) { i } else { ends[i + 1] };
+        }
+        for t in 0..n {
+            let (from, to) = (t + lo, t + hi);
+            let (end, last) = (ends[from.min(n)], to.min(n - 1));
+            let far = from + 1_000 < end && end <= last;
+            let none = from + 1_000 <= last && last < end;
+            let turned_at = |i: usize| i < n && i == end && changed(i, turning(kind));
+            *(if got[t] { &mut self.yes } else { &mut self.no }) += 1;
+            self.far += far as u64;
+            self.last += (far && turned_at(to)) as u64;
+            self.none += none as u64;
+            self.beyond += (none && turned_at(to + 1)) as u64;
+        }
+    }
+}
+
+/// Windows that end 1,000 to 4,095 ticks ahead, against the naive evaluator, on traces where many of them are searched far or to their end.
+#[test]
+fn long_windows() {
+    let mut r = Random(17);
+    for kind in 7..=10 {
+        let mut decided = Decided::default();
+        let mut tops = vec![1000, 1023, 1024, 2047, 2048, 4084, 4094, 4095];
+        tops.extend((0..20).map(|_| 1000 + r.below(3096) as usize));
+        for hi in tops {
+            for lo in [0, 1, r.below(hi as u64 + 1) as usize, hi - 1, hi] {
+                let t = temporal(kind, lo as u16, hi as u16);
+                let wide = hi + r.below(5121 - hi as u64) as usize;
+                let short = 1 + r.below(hi as u64) as usize;
+                for n in [5120, 5119, wide, hi + 1, hi, short, lo + 2, lo + 1] {
+                    let mut states = quiet_trace(&mut r, kind, n);
+                    if n > hi + 1 && r.chance(2) {
+                        // One tick that is the last of a window and behind the window before it, with nothing else in the two.
+                        let last = hi + 1 + r.below((n - hi - 1) as u64) as usize;
+                        for x in &mut states[last + lo - hi - 1..=last] {
+                            *x = (*x & !3) | quiet(kind);
+                        }
+                        states[last] ^= r.pick(&[turning(kind), 3]);
+                    }
+                    let got = accepted(&mut r, &t, 0, &states);
+                    assert!(got == t.verdicts(2, &states), "kind {kind} lo {lo} hi {hi} n {n}");
+                    decided.count(kind, (lo, hi), &states, &got);
+                }
+            }
+        }
+        let Decided { yes, no, far, last, none, beyond } = decided;
+        assert!(yes.min(no) > 100_000 && far.min(none) > 100_000 && last.min(beyond) > 100, "kind {kind}: {decided:?}");
     }
 }
 
