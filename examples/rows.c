@@ -16,20 +16,20 @@ static uint64_t out[JUNTREAK_CLOSE_WORDS];
 static void watch(uint8_t table[JUNTREAK_TABLE_BYTES], uint8_t kind, uint8_t lo, uint8_t hi, uint8_t left, uint8_t right)
 {
     static const uint8_t operands[] = {1, 0, 0, 0, 0, 0, 0, 0, 1, 1, 0, 0, 0, 0, 0, 0, 2, 0, 0, 0, 0, 0, 0, 0, 3, 0, 0, 0, 0, 0, 0, 0};
-    uint8_t node[8] = {0};
+    uint8_t *node = table + JUNTREAK_NODE_AT(4);
+    uint8_t *rule = table + JUNTREAK_RULE_AT(0);
 
     memset(table, 0, JUNTREAK_TABLE_BYTES);
-    table[0] = 5;
-    table[1] = 1;
-    memcpy(table + 2, operands, sizeof operands);
+    table[JUNTREAK_NODE_COUNT_AT] = 5;
+    table[JUNTREAK_RULE_COUNT_AT] = 1;
+    memcpy(table + JUNTREAK_NODE_AT(0), operands, sizeof operands);
     node[0] = kind;
     node[2] = lo;
     node[4] = hi;
     node[6] = left;
     node[7] = right;
-    memcpy(table + 2 + sizeof operands, node, sizeof node);
-    table[514] = 7;
-    table[516] = 4;
+    rule[0] = 7;
+    rule[2] = 4;
 }
 
 enum { P, Q, TRUE, FALSE };
@@ -45,14 +45,14 @@ static void verdicts(const char *name, uint8_t kind, uint8_t lo, uint8_t hi, uin
         printf("refused");
     else
         for (t = 0; t < 8; t++)
-            printf("%u", (unsigned)(out[0] >> t & 1));
+            printf("%u", JUNTREAK_VERDICT(out, t));
     printf("\n");
 }
 
 static void splits(uint16_t v)
 {
     uint8_t parts[12];
-    uint32_t i, count = juntreak_split(0, v, parts) / 256;
+    uint32_t i, count = JUNTREAK_SPLIT_COUNT(juntreak_split(0, v, parts));
 
     printf("v %u:", (unsigned)v);
     for (i = 0; i < count; i++)
@@ -64,7 +64,7 @@ static void told(const char *call, uint64_t answer, uint32_t kept)
 {
     uint32_t i;
 
-    printf("%s: number %u, %u verdicts, word %" PRIu64 ", kept", call, (unsigned)(uint32_t)answer, (unsigned)(answer >> 32), out[0]);
+    printf("%s: number %u, %u verdicts, word %" PRIu64 ", kept", call, (unsigned)JUNTREAK_CALL_NUMBER(answer), (unsigned)JUNTREAK_CALL_COUNT(answer), out[0]);
     for (i = 0; i < kept; i++)
         printf(" %" PRIu32, history[i]);
     printf("\n");

@@ -25,17 +25,14 @@ static uint64_t tick;
 /* Prints the verdicts of a feed or close; answers the number. */
 static uint32_t print_verdicts(uint64_t answer)
 {
-    uint32_t number = (uint32_t)answer;
-    uint32_t count = (uint32_t)(answer >> 32);
-    unsigned name = table[514] + 256u * table[515];
+    uint32_t count = JUNTREAK_CALL_COUNT(answer);
     uint32_t i;
 
     for (i = 0; i < count; i++) {
-        unsigned verdict = (unsigned)(out[i / 64] >> (i % 64) & 1);
-        printf("%u %" PRIu64 " %u\n", name, tick, verdict);
+        printf("%u %" PRIu64 " %u\n", JUNTREAK_RULE_NAME(table, 0), tick, JUNTREAK_VERDICT(out, i));
         tick++;
     }
-    return number;
+    return JUNTREAK_CALL_NUMBER(answer);
 }
 
 static int refused(const char *what, uint32_t number)

@@ -67,6 +67,33 @@ enum {
     JUNTREAK_SEEN = 24     /* seen + k above 4294967295 */
 };
 
+/* What an answer holds. */
+/* of juntreak_check_book and juntreak_read: the number, and the record */
+#define JUNTREAK_BOOK_NUMBER(answer) ((uint32_t)(answer) % 256)
+#define JUNTREAK_BOOK_RECORD(answer) ((uint32_t)(answer) / 256)
+/* of juntreak_delay: the number, and the delay */
+#define JUNTREAK_DELAY_NUMBER(answer) ((uint32_t)(answer) % 65536)
+#define JUNTREAK_DELAY_TICKS(answer) ((uint32_t)(answer) / 65536)
+/* of juntreak_split: the number, and the count of parts */
+#define JUNTREAK_SPLIT_NUMBER(answer) ((uint32_t)(answer) % 256)
+#define JUNTREAK_SPLIT_COUNT(answer) ((uint32_t)(answer) / 256)
+/* of juntreak_feed and juntreak_close: the number, and the count of verdicts */
+#define JUNTREAK_CALL_NUMBER(answer) ((uint32_t)(answer))
+#define JUNTREAK_CALL_COUNT(answer) ((uint32_t)((uint64_t)(answer) >> 32))
+
+/* Verdict i of out, 1 or 0. */
+#define JUNTREAK_VERDICT(out, i) ((unsigned)((out)[(i) / 64] >> ((i) % 64) & 1))
+
+/* Places in a table's bytes, and what stands at a place of a node or a rule. */
+#define JUNTREAK_NODE_COUNT_AT 0
+#define JUNTREAK_RULE_COUNT_AT 1
+#define JUNTREAK_NODE_AT(i) (2 + 8 * (i))   /* kind, argument, lo (2), hi (2), left, right */
+#define JUNTREAK_RULE_AT(i) (514 + 4 * (i)) /* name (2), watched node, zero */
+
+/* The name of rule i of a table. */
+#define JUNTREAK_RULE_NAME(table, i) \
+    ((unsigned)(table)[JUNTREAK_RULE_AT(i)] + 256u * (table)[JUNTREAK_RULE_AT(i) + 1])
+
 /*
  * A book is 1 to 255 records of 12 bytes. Byte 0: kind; 1: argument;
  * 2-3: lo; 4-5: hi; 6: left; 7: right; 8: next; 9-11: zero. Record 0 is the

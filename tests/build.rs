@@ -1,8 +1,8 @@
-// Links the static library that `rt staticlib capi` writes.
+// Links the static library that `rt staticlib juntreak` writes.
 fn main() {
     let here = std::env::var("CARGO_MANIFEST_DIR").unwrap();
     let lib = format!("{here}/../target/staticlib");
     println!("cargo:rustc-link-search=native={lib}");
-    println!("cargo:rustc-link-lib=static=capi");
-    println!("cargo:rerun-if-changed={lib}/libcapi.a");
+    println!("cargo:rustc-link-lib=static=juntreak");
+    println!("cargo:rerun-if-changed={lib}/libjuntreak.a");
 }

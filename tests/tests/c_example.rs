@@ -21,7 +21,7 @@ fn printed(name: &str) -> String {
         .arg("-o")
         .arg(&program)
         .arg(root.join(format!("examples/{name}.c")))
-        .arg(root.join("target/staticlib/libcapi.a")));
+        .arg(root.join("target/staticlib/libjuntreak.a")));
     let output = run(&mut Command::new(&program));
     std::fs::remove_dir_all(&directory).unwrap();
     assert!(output.stderr.is_empty());

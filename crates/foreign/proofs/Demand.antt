@@ -25,7 +25,7 @@ use Rattle.flat.specs.Flat.{tableFrom, written}
 use Rattle.flat.specs.Sessions.{sessionFrom, sessionWritten}
 use Rattle.flat.proofs.Laws.{length-written, table-back}
 use Rattle.flat.proofs.Sessions.{session-back, renewed-back}
-use Rattle.capi.specs.Answers.{counted, Called}
+use Rattle.juntreak.specs.Answers.{counted, Called}
 use Rattle.mission.specs.Calls.{Meets, Claim, statesFed, verdictsGiven}
 use Rattle.mission.specs.Calls as calls
 use Rattle.mission.specs.Mission.{rowsOf}

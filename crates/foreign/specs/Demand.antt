@@ -15,7 +15,7 @@ use Rattle.session.specs.declared.Session.{Session}
 use Rattle.session.specs.Session.{Effect, opening, feeding, closing}
 use Rattle.flat.specs.Flat.{tableFrom, written}
 use Rattle.flat.specs.Sessions.{sessionFrom, sessionWritten}
-use Rattle.capi.specs.Answers.{leaves, Simplifies, Called}
+use Rattle.juntreak.specs.Answers.{leaves, Simplifies, Called}
 use Rattle.mission.specs.Calls.{Exchange, statesFed, verdictsGiven, Meets, Claim}
 use Rattle.mission.specs.Calls as mission
 use Rattle.mission.specs.Mission.{rowsOf}

@@ -1,8 +1,8 @@
 -- The table is what its bytes hold. Assumes nothing.
 use borrow.Author.Needs.{needs}
-use Rattle.capi.proofs.Laws.{answered-by}
-use Rattle.capi.proofs.juntreak_verdicts.Statement.{statement}
-use Rattle.capi.proofs.juntreak_verdicts.Tie as tie
+use Rattle.juntreak.proofs.Laws.{answered-by}
+use Rattle.juntreak.proofs.juntreak_verdicts.Statement.{statement}
+use Rattle.juntreak.proofs.juntreak_verdicts.Tie as tie
 
 returns : tie.Need-returns
 returns c =

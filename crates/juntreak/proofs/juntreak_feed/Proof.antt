@@ -3,10 +3,10 @@ use Prim.Native.Nat.{_≤_}
 use native.Mathlib.Omega.{arith}
 use Rattle.session.specs.declared.Session.{Session}
 use Rattle.session.specs.Session.{feeding}
-use Rattle.capi.proofs.Laws.{called-by, count-within, feed-count}
+use Rattle.juntreak.proofs.Laws.{called-by, count-within, feed-count}
 use borrow.Author.Needs.{needs}
-use Rattle.capi.proofs.juntreak_feed.Statement.{statement}
-use Rattle.capi.proofs.juntreak_feed.Tie as tie
+use Rattle.juntreak.proofs.juntreak_feed.Statement.{statement}
+use Rattle.juntreak.proofs.juntreak_feed.Tie as tie
 
 small : (c : tie.After-struct-known) → c .before .before .before .before .before .before .before .before .before .«feed» .result .count ≤ 1024
 small c =

@@ -2,8 +2,8 @@
 use mathlib.Core.Path.{ap, _∙_}
 use Rattle.book.specs.Reading.{codeOf}
 use borrow.Author.Needs.{needs}
-use Rattle.capi.proofs.juntreak_check_book.Statement.{statement}
-use Rattle.capi.proofs.juntreak_check_book.Tie as tie
+use Rattle.juntreak.proofs.juntreak_check_book.Statement.{statement}
+use Rattle.juntreak.proofs.juntreak_check_book.Tie as tie
 
 returns : tie.Need-returns
 returns c = c .code-of .ensures ∙ ap codeOf (c .before .read .ensures)

@@ -18,7 +18,7 @@ use Rattle.session.specs.declared.Session.{Session}
 use Rattle.session.specs.declared.Answer.{Answer}
 use Rattle.session.specs.Session.{Effect, unfit, feedNumber, feeding, closeNumber, closing}
 use Rattle.session.proofs.Answers.{feed-fits, close-fits, unfit-short}
-use Rattle.capi.specs.Answers.{leaves, sessionAnswer, Simplifies, counted, Called}
+use Rattle.juntreak.specs.Answers.{leaves, sessionAnswer, Simplifies, counted, Called}
 
 -- ---- what a call leaves in a buffer
 pub renews : {number : ℕ} {new b : List ℕ} (old : List ℕ) → number ≡ 0 → b ≡ new → b ≡ leaves number new old

@@ -4,9 +4,9 @@ use Rattle.book.specs.declared.Reading.{Reading}
 use Rattle.book.specs.Reading.{codeOf}
 use Rattle.flat.specs.Flat.{written}
 use borrow.Author.Needs.{needs}
-use Rattle.capi.specs.Answers.{leaves}
-use Rattle.capi.proofs.juntreak_read.Statement.{statement}
-use Rattle.capi.proofs.juntreak_read.Tie as tie
+use Rattle.juntreak.specs.Answers.{leaves}
+use Rattle.juntreak.proofs.juntreak_read.Statement.{statement}
+use Rattle.juntreak.proofs.juntreak_read.Tie as tie
 
 returns : tie.Need-returns
 returns c =

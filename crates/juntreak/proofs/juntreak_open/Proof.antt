@@ -5,9 +5,9 @@ use Rattle.flat.specs.Sessions.{sessionWritten}
 use Rattle.session.specs.declared.Opening.{Opening}
 use Rattle.session.specs.Session.{opening}
 use borrow.Author.Needs.{needs}
-use Rattle.capi.specs.Answers.{leaves}
-use Rattle.capi.proofs.juntreak_open.Statement.{statement}
-use Rattle.capi.proofs.juntreak_open.Tie as tie
+use Rattle.juntreak.specs.Answers.{leaves}
+use Rattle.juntreak.proofs.juntreak_open.Statement.{statement}
+use Rattle.juntreak.proofs.juntreak_open.Tie as tie
 
 returns : tie.Need-returns
 returns c =

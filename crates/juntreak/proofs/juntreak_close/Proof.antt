@@ -3,10 +3,10 @@ use Prim.Native.Nat.{_≤_}
 use native.Mathlib.Omega.{arith}
 use Rattle.session.specs.declared.Session.{Session}
 use Rattle.session.specs.Session.{closing}
-use Rattle.capi.proofs.Laws.{called-by, count-within, close-count}
+use Rattle.juntreak.proofs.Laws.{called-by, count-within, close-count}
 use borrow.Author.Needs.{needs}
-use Rattle.capi.proofs.juntreak_close.Statement.{statement}
-use Rattle.capi.proofs.juntreak_close.Tie as tie
+use Rattle.juntreak.proofs.juntreak_close.Statement.{statement}
+use Rattle.juntreak.proofs.juntreak_close.Tie as tie
 
 small : (c : tie.After-struct-known) → c .before .before .before .before .before .before .before .«close» .result .count ≤ 4095
 small c =

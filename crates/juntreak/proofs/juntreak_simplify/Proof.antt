@@ -1,8 +1,8 @@
 -- The table is what its bytes hold. Assumes nothing.
-use Rattle.capi.proofs.Laws.{simplified-bytes}
+use Rattle.juntreak.proofs.Laws.{simplified-bytes}
 use borrow.Author.Needs.{needs}
-use Rattle.capi.proofs.juntreak_simplify.Statement.{statement}
-use Rattle.capi.proofs.juntreak_simplify.Tie as tie
+use Rattle.juntreak.proofs.juntreak_simplify.Statement.{statement}
+use Rattle.juntreak.proofs.juntreak_simplify.Tie as tie
 
 returns : tie.Need-returns
 returns c =

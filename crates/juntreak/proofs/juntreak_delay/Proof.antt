@@ -3,9 +3,9 @@ use mathlib.Core.Path.{ap, _∙_}
 use Rattle.table.specs.declared.Table.{Table}
 use Rattle.table.specs.Sound.{ruleDelay}
 use borrow.Author.Needs.{needs}
-use Rattle.capi.specs.Answers.{delayAnswer}
-use Rattle.capi.proofs.juntreak_delay.Statement.{statement}
-use Rattle.capi.proofs.juntreak_delay.Tie as tie
+use Rattle.juntreak.specs.Answers.{delayAnswer}
+use Rattle.juntreak.proofs.juntreak_delay.Statement.{statement}
+use Rattle.juntreak.proofs.juntreak_delay.Tie as tie
 
 returns : tie.Need-returns
 returns c =

@@ -8,7 +8,7 @@ ghost use Rattle.verdict.specs.Verdict.{Answered};
 ghost use Rattle.session.specs.Session.{opening, feeding, closing};
 ghost use Rattle.flat.specs.Flat.{tableFrom, written};
 ghost use Rattle.flat.specs.Sessions.{sessionFrom, sessionWritten};
-ghost use Rattle.capi.specs.Answers.{leaves, delayAnswer, splitAnswer, Simplifies, counted, Called};
+ghost use Rattle.juntreak.specs.Answers.{leaves, delayAnswer, splitAnswer, Simplifies, counted, Called};
 use book::Reading;
 use session::Answer;
 use session::Session;

@@ -5,9 +5,9 @@ use mathlib.Core.Path.{ap, _∙_}
 use borrow.Author.Needs.{needs}
 use Rattle.interval.specs.declared.Splitting.{Splitting}
 use Rattle.interval.proofs.Laws.{splitting-count}
-use Rattle.capi.specs.Answers.{leaves, splitAnswer}
-use Rattle.capi.proofs.juntreak_split.Statement.{statement}
-use Rattle.capi.proofs.juntreak_split.Tie as tie
+use Rattle.juntreak.specs.Answers.{leaves, splitAnswer}
+use Rattle.juntreak.proofs.juntreak_split.Statement.{statement}
+use Rattle.juntreak.proofs.juntreak_split.Tie as tie
 
 few : (c : tie.After-struct-known2) → c .before .before .before .before .before .split .result .count ≤ 12
 few c = rw (c .before .before .before .before .before .split .ensures) (splitting-count _ _)

@@ -1,8 +1,8 @@
 -- The number decides. Assumes nothing.
 use mathlib.Core.Path.{refl}
-use Rattle.capi.proofs.Laws.{renews, stays}
-use Rattle.capi.proofs.put_parts.Statement.{statement}
-use Rattle.capi.proofs.put_parts.Tie as tie
+use Rattle.juntreak.proofs.Laws.{renews, stays}
+use Rattle.juntreak.proofs.put_parts.Statement.{statement}
+use Rattle.juntreak.proofs.put_parts.Tie as tie
 
 returns : tie.Need-returns
 returns c = renews (c .before .args .parts .now) (c .if1 .taken) refl
