@@ -26,12 +26,12 @@ use Rattle.flat.specs.Sessions.{sessionFrom, sessionWritten}
 use Rattle.flat.proofs.Laws.{length-written, table-back}
 use Rattle.flat.proofs.Sessions.{session-back, renewed-back}
 use Rattle.juntreak.specs.Answers.{counted, Called}
-use Rattle.mission.specs.Calls.{Meets, Claim, statesFed, verdictsGiven}
+use Rattle.acts.specs.Claim.{Claim}
+use Rattle.mission.specs.Calls.{Meets, statesFed, verdictsGiven}
 use Rattle.mission.specs.Calls as calls
-use Rattle.mission.specs.Mission.{rowsOf}
 use Rattle.mission.specs.Mission as mission
 use Rattle.mission.proofs.ThirdDemand.{third-demand}
-use Rattle.foreign.specs.Demand.{Lent, Call, feed, close, lent, Contract, number, exchanged, asCall, isClose, Calls, begin, accepted, refused, Start, verdictOf, delayOf, Untouched, ForeignDemand}
+use Rattle.foreign.specs.Demand.{Lent, Call, feed, close, lent, Contract, number, actOf, asCall, Calls, begin, accepted, refused, Start, verdictOf, delayOf, Untouched, ForeignDemand}
 
 -- ---- the bytes after a call
 -- the bytes hold the session that the answer hands back
@@ -97,9 +97,9 @@ meets (close l) k =
     effect-is (close-small (l .session) (l .history) (l .scratch) (l .out) (l .size)) (close-back (l .session) (l .history) (l .scratch) (l .out) (l .size)) k
 
 -- ---- refusals
-refusals : (c : Call) → Contract c → (¬ (number c ≡ 0)) ↔ (someFits (rowsOf (asCall c)) ≡ true)
-refusals (feed block l) k = third-demand .calls-refused (asCall (feed block l)) (meets (feed block l) k)
-refusals (close l) k = third-demand .calls-refused (asCall (close l)) (meets (close l) k)
+refusals : (c : Call) → Contract c
+    → (¬ (number c ≡ 0)) ↔ (someFits (calls.rowsOf (actOf c) (sessionFrom (lent c .session)) (lent c .history) (lent c .scratch) (lent c .out)) ≡ true)
+refusals c k = third-demand .calls-refused (asCall c) (meets c k)
 
 -- a refused effect hands back its buffers, and the bytes stay
 untouched-by : {e : Effect} {n : ℕ} {s : Session} (l : Lent) → e ≡ unchanged n s (l .history) (l .scratch) (l .out) → (n ≡ 0 → ⊥)
@@ -125,14 +125,12 @@ module _ (first start : List ℕ) where
   Listed cs b h ended = calls.Calls (sessionFrom first) start (map asCall cs) (sessionFrom b) h ended
 
   listed-accepted : (cs : List Call) (c : Call) → Listed cs (lent c .session) (lent c .history) false → Contract c → number c ≡ 0
-      → Listed (cs ++ (c ∷ [])) (lent c .session′) (lent c .history′) (isClose c)
-  listed-accepted cs (feed block l) a k z = rw map-append (calls.accepted-feed block (exchanged (feed block l)) a (meets (feed block l) k) z)
-  listed-accepted cs (close l) a k z = rw map-append (calls.accepted-close (exchanged (close l)) a (meets (close l) k) z)
+      → Listed (cs ++ (c ∷ [])) (lent c .session′) (lent c .history′) (calls.ends (actOf c))
+  listed-accepted cs c a k z = rw map-append (calls.accepted (asCall c) a (meets c k) z)
 
   listed-refused : (cs : List Call) (b h : List ℕ) (ended : Bool) (c : Call) → Listed cs b h ended → Contract c → (number c ≡ 0 → ⊥)
       → Listed (cs ++ (c ∷ [])) b h ended
-  listed-refused cs b h ended (feed block l) a k n = rw map-append (calls.refused (asCall (feed block l)) a (meets (feed block l) k) n)
-  listed-refused cs b h ended (close l) a k n = rw map-append (calls.refused (asCall (close l)) a (meets (close l) k) n)
+  listed-refused cs b h ended c a k n = rw map-append (calls.refused (asCall c) a (meets c k) n)
 
   listed : {cs : List Call} {b h : List ℕ} {ended : Bool} → Calls first start cs b h ended → Listed cs b h ended
   listed begin = calls.begin

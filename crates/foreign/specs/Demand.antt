@@ -16,9 +16,9 @@ use Rattle.session.specs.Session.{Effect, opening, feeding, closing}
 use Rattle.flat.specs.Flat.{tableFrom, written}
 use Rattle.flat.specs.Sessions.{sessionFrom, sessionWritten}
 use Rattle.juntreak.specs.Answers.{leaves, Simplifies, Called}
-use Rattle.mission.specs.Calls.{Exchange, statesFed, verdictsGiven, Meets, Claim}
+use Rattle.acts.specs.Claim.{Claim}
+use Rattle.mission.specs.Calls.{statesFed, verdictsGiven, Meets}
 use Rattle.mission.specs.Calls as mission
-use Rattle.mission.specs.Mission.{rowsOf}
 
 -- ---- one call
 -- what a call was given: the session's 558 bytes, history, scratch and out; its answer, and what it left in these
@@ -57,8 +57,13 @@ abbrev pub count : Call → ℕ
 count c = lent c .answer / 4294967296
 
 -- the call as one of crate mission: the sessions are those that the bytes hold, before and after
-abbrev pub exchanged : Call → Exchange
-exchanged c = record {
+abbrev pub actOf : Call → mission.Act
+actOf (feed block l) = mission.feed block
+actOf (close l) = mission.close
+
+abbrev pub asCall : Call → mission.Call
+asCall c = record {
+  act = actOf c;
   session = sessionFrom (lent c .session);
   history = lent c .history;
   scratch = lent c .scratch;
@@ -71,21 +76,13 @@ exchanged c = record {
   };
 }
 
-abbrev pub asCall : Call → mission.Call
-asCall (feed block l) = mission.feed block (exchanged (feed block l))
-asCall (close l) = mission.close (exchanged (close l))
-
 -- ---- lists of calls
-abbrev pub isClose : Call → Bool
-isClose (feed block l) = false
-isClose (close l) = true
-
 -- The calls, the bytes and the history that they have come to, and whether a close was accepted. An accepted call is given the list's own
 -- bytes and history, as the last accepted call left them; a refused one may be given any.
 pub data Calls (first start : List ℕ) : List Call → List ℕ → List ℕ → Bool → Type 0 where
   begin : Calls first start [] first start false
   accepted : {cs : List Call} (c : Call) → Calls first start cs (lent c .session) (lent c .history) false → Contract c → number c ≡ 0
-      → Calls first start (cs ++ (c ∷ [])) (lent c .session′) (lent c .history′) (isClose c)
+      → Calls first start (cs ++ (c ∷ [])) (lent c .session′) (lent c .history′) (mission.ends (actOf c))
   refused : {cs : List Call} {b h : List ℕ} {ended : Bool} (c : Call) → Calls first start cs b h ended → Contract c → (number c ≡ 0 → ⊥)
       → Calls first start (cs ++ (c ∷ [])) b h ended
 
@@ -136,5 +133,5 @@ pub record ForeignDemand : Type 0 where
   -- after an accepted close they hold the session that open gave
   pub reopened : (m : Start) (cs : List Call) (b h : List ℕ) → Calls (m .session) (m .history) cs b h true → sessionFrom b ≡ sessionFrom (m .session)
   -- a call is refused exactly where a row fits it, and then writes nothing
-  pub refusals : (c : Call) → Contract c → (¬ (number c ≡ 0)) ↔ (someFits (rowsOf (asCall c)) ≡ true)
+  pub refusals : (c : Call) → Contract c → (¬ (number c ≡ 0)) ↔ (someFits (mission.rowsOf (actOf c) (sessionFrom (lent c .session)) (lent c .history) (lent c .scratch) (lent c .out)) ≡ true)
   pub untouched : (c : Call) → Contract c → (number c ≡ 0 → ⊥) → Untouched (lent c)

@@ -4,12 +4,12 @@ use native.Mathlib.Omega.{arith}
 use mathlib.Core.Path.{_≡_, refl}
 use mathlib.Core.Logic.{_↔_}
 use mathlib.Core.Bool.{Bool, true, false, _||_, true≢false, false≢true}
-use mathlib.Core.List.{List, [], _∷_}
+use mathlib.Core.List.{List, [], _∷_, _++_}
 use borrow.Author.Tests.{ltb-true, leb-true}
 use lib.Dec.{ltb, leb}
 use lib.ListN.{getD}
 use Rattle.lists.specs.Choice.{Row, pick, _if_, first, someFits, numbered, numberedTo}
-use Rattle.lists.proofs.Tests.{true-left, true-right}
+use Rattle.lists.proofs.Tests.{true-left, true-right, _also_}
 
 -- a row more, as the code takes it
 pub row-more : (n : ℕ) {b t : Bool} {f g h : ℕ} → f ≡ pick b n g → b ≡ t → g ≡ h → f ≡ pick t n h
@@ -60,3 +60,23 @@ pub first-within : (n : ℕ) (rs : List Row) → numberedTo n rs ≡ true → fi
 first-within n [] p = omega arith
 first-within n (r ∷ rs) p =
     row-within n (r .number) (r .test) (first rs) (leb-true (r .number) n (true-left _ _ p)) (first-within n rs (true-right (leb (r .number) n) _ p))
+
+-- ---- rows, and more rows behind them
+pub numbered-append : (rs ts : List Row) → numbered rs ≡ true → numbered ts ≡ true → numbered (rs ++ ts) ≡ true
+numbered-append [] ts p q = q
+numbered-append (r ∷ rs) ts p q = true-left (ltb 0 (r .number)) (numbered rs) p also numbered-append rs ts (true-right (ltb 0 (r .number)) (numbered rs) p) q
+
+-- where none of all fits, none of the last ones does
+pub last-none : (rs ts : List Row) → numbered rs ≡ true → first (rs ++ ts) ≡ 0 → first ts ≡ 0
+last-none [] ts p e = e
+last-none (r ∷ rs) ts p e =
+    last-none rs ts (true-right (ltb 0 (r .number)) (numbered rs) p)
+    (none-rest (r .number) (r .test) (first (rs ++ ts)) (ltb-true 0 (r .number) (true-left _ _ p)) e)
+
+-- the same with other last rows
+pub last-other : (rs ts us : List Row) → numbered rs ≡ true → (first ts ≡ 0 → first us ≡ 0) → first (rs ++ ts) ≡ 0 → first (rs ++ us) ≡ 0
+last-other [] ts us p k e = k e
+last-other (r ∷ rs) ts us p k e =
+    let h : 0 < r .number = ltb-true 0 (r .number) (true-left _ _ p) in
+    rw (none-test (r .number) (r .test) (first (rs ++ ts)) h e)
+    (last-other rs ts us (true-right (ltb 0 (r .number)) (numbered rs) p) k (none-rest (r .number) (r .test) (first (rs ++ ts)) h e))

@@ -5,8 +5,8 @@ use mathlib.Core.Path.{_≡_}
 use mathlib.Core.Logic.{_↔_}
 use mathlib.Core.Bool.{Bool, true}
 use mathlib.Core.List.{List}
-use lib.ListN.{length, take}
-use Rattle.lists.specs.Choice.{Row, someFits}
+use lib.ListN.{take}
+use Rattle.lists.specs.Choice.{someFits}
 use Rattle.mltl.specs.Mltl.{holds, delay}
 use Rattle.table.specs.declared.Table.{Table}
 use Rattle.table.specs.Nodes.{watchedFormula}
@@ -15,8 +15,9 @@ use Rattle.book.specs.Reading.{reading}
 use Rattle.simplify.specs.Promise.{Promised}
 use Rattle.simplify.specs.declared.Simplified.{Simplified}
 use Rattle.session.specs.declared.Session.{Session}
-use Rattle.session.specs.Session.{opening, unfit, feedRows, closeRows}
-use Rattle.mission.specs.Calls.{Call, feed, close, Meets, numberOf, Calls, statesFed, verdictsGiven, Claim}
+use Rattle.session.specs.Session.{opening}
+use Rattle.acts.specs.Claim.{Claim}
+use Rattle.mission.specs.Calls.{Call, Meets, numberOf, rowsOf, Calls, statesFed, verdictsGiven}
 
 -- An accepted read of a book, the simplifier's accepted answer for its table, and an accepted open of a rule; any history.
 pub record Start : Type 0 where
@@ -48,13 +49,6 @@ pub record Beginning (first : Session) (start : List ℕ) (cs : List Call) : Typ
   pub ended : Bool
   pub calls : Calls first start cs session history ended
 
--- ---- a call is refused exactly where a row of document 01's Refusals fits it
--- the rows of a call, by its session and the lengths of what it was lent
-abbrev pub rowsOf : Call → List Row
-rowsOf (feed block e) =
-    feedRows (unfit (e .session)) (e .session .seen) (length block) (length (e .history)) (length (e .scratch)) (length (e .out))
-rowsOf (close e) = closeRows (unfit (e .session)) (length (e .history)) (length (e .scratch)) (length (e .out))
-
 -- ---- the third demand
 pub record ThirdDemand : Type 0 where
   -- what holds of every list of calls, by whether a close was accepted in it
@@ -66,6 +60,6 @@ pub record ThirdDemand : Type 0 where
   -- after an accepted close the session is as open gave it: a new list can begin with it
   pub reopened : (m : Start) (cs : List Call) (s : Session) (h : List ℕ) → Calls (sessionOf m) (m .history) cs s h true → s ≡ sessionOf m
   -- a call, and before it the simplifier's and the open, is refused exactly where a row fits it
-  pub calls-refused : (c : Call) → Meets c → (¬ (numberOf c ≡ 0)) ↔ (someFits (rowsOf c) ≡ true)
+  pub calls-refused : (c : Call) → Meets c → (¬ (numberOf c ≡ 0)) ↔ (someFits (rowsOf (c .act) (c .session) (c .history) (c .scratch) (c .out)) ≡ true)
   pub simplify-refused : (t : Table) (r : Simplified) → Promised t r → (¬ (r .number ≡ 0)) ↔ (someFits (tableRows (isSound t)) ≡ true)
   pub open-refused : (t : Table) (r : ℕ) → (¬ (opening t r .number ≡ 0)) ↔ (someFits (ruleRows (isSound t) (t .«rule_count») r) ≡ true)

@@ -19,7 +19,7 @@ use Rattle.table.specs.declared.Table.{Table}
 use Rattle.table.specs.Sound.{isSound, Sound, delayNumber}
 use Rattle.table.proofs.Soundness.{sound-iff, rule-there}
 use Rattle.session.specs.declared.Session.{Session}
-use Rattle.session.specs.Session.{Effect, refused, unfit, verdictWords, feedNumber, fed, feeding, closeNumber, closed, closing, opening}
+use Rattle.session.specs.Session.{Effect, refused, unfit, verdictWords, feedNumber, fed, feeding, closeNumber, closed, closing, opening, noSession}
 
 -- a choice between an accepted effect, whose number is 0, and a refused one
 module _ (n : ℕ) (yes : Effect) (zero : yes .answer .number ≡ 0) (s : Session) (h x o : List ℕ) where
@@ -94,3 +94,12 @@ pub opened-fit : (t : Table) (r : ℕ) → opening t r .number ≡ 0 → unfit (
 opened-fit t r e =
     let s : isSound t ≡ true = sound-iff t .1 (opened-sound t r e) in
     rw (opened-is t r e, s, lt-leb (t .«rule_count») r (opened-rule t r e))
+
+-- no open gives a session that has seen a state
+pub opened-unseen : (t : Table) (r : ℕ) → opening t r .session .seen ≡ 0
+unfolding opening
+opened-unseen t r = go (eqb (delayNumber t r) 0)
+  where
+    go : (b : Bool) → pick b (record { table = t; rule = r; seen = 0 }) noSession .seen ≡ 0
+    go true = refl
+    go false = refl

@@ -5,7 +5,7 @@ use mathlib.Core.List.{List, [], _∷_, _++_}
 use lib.ListN.{length, take, drop}
 use lib.Dec.{ltb, leb, eqb}
 use Rattle.lists.specs.Choice.{Row, pick, _if_, first}
-use Rattle.lists.specs.Sequence.{padded}
+use Rattle.lists.specs.Sequence.{padded, lastOf}
 use Rattle.lists.specs.Bits.{packed}
 use Rattle.mltl.specs.Mltl.{Formula, holds, delay}
 use Rattle.table.specs.Nodes.{noTable, watchedFormula}
@@ -53,10 +53,6 @@ unfit s = not (isSound (s .table)) || leb (s .table .«rule_count») (s .rule)
 -- the largest count of states seen
 abbrev pub seenLimit : ℕ
 seenLimit = 4294967295
-
--- the last d of xs, or all if there are fewer
-abbrev pub lastOf : ℕ → List ℕ → List ℕ
-lastOf d xs = drop (length xs - d) xs
 
 -- the states that history holds: the last min(seen, D), oldest first
 abbrev pub keptOf : Session → List ℕ → List ℕ

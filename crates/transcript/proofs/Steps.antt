@@ -5,24 +5,23 @@ use mathlib.Core.Path.{_≡_, refl, sym, ap, _∙_}
 use mathlib.Core.Bool.{Bool, true, false, not}
 use mathlib.Core.Logic.{⊎-elim}
 use mathlib.Core.List.{List, [], _∷_, _++_, map, map-append, append-assoc, append-nil}
-use borrow.Author.Tests.{eq-eqb, ne-eqb, eqb-true, not-false, le-leb, lt-leb, le-ltb, ltb-true, leb-false}
-use lib.Dec.{eqb, leb, ltb}
+use borrow.Author.Tests.{eq-eqb, ne-eqb, eqb-true, not-false, le-leb, lt-leb, le-ltb, ltb-true}
+use lib.Dec.{eqb, ltb}
 use lib.ListN.{length, take, length-append}
 use Rattle.lists.specs.Choice.{pick}
 use Rattle.lists.specs.Sequence.{ticks}
 use Rattle.lists.specs.Bits.{bitAt}
-use Rattle.lists.proofs.Tests.{true-or-false, or-left, or-right}
+use Rattle.lists.proofs.Tests.{true-or-false}
 use Rattle.lists.proofs.Sequences.{length-ticks}
-use Rattle.table.specs.declared.Table.{Table}
-use Rattle.table.specs.Sound.{isSound, delayNumber}
-use Rattle.table.proofs.Soundness.{sound-iff, watched-short}
+use Rattle.table.proofs.Soundness.{watched-short}
 use Rattle.session.specs.declared.Session.{Session}
-use Rattle.session.specs.Session.{Effect, feeding, closing, seenLimit, unfit, opening, noSession, delayOf as delayIn}
-use Rattle.session.proofs.Effects.{opened-fit, feed-number, close-number}
-use Rattle.mission.specs.Calls.{Call, feed, close, begin, accepted-feed, accepted-close, statesFed, verdictsGiven, Going}
+use Rattle.session.specs.Session.{Effect, feeding, closing, seenLimit, unfit, withSeen, delayOf as delayIn}
+use Rattle.session.proofs.Effects.{opened-is, opened-rule, opened-sound, opened-fit, feed-number, close-number}
+use Rattle.acts.specs.Claim.{Going}
+use Rattle.mission.specs.Calls.{Call, feed, close, begin, accepted, statesFed, verdictsGiven}
 use Rattle.mission.specs.Mission.{Start, sessionOf, delayOf, verdictOf}
-use Rattle.mission.proofs.ThirdDemand.{third-demand}
-use Rattle.mission.proofs.Listed.{come, states-snoc, verdicts-snoc}
+use Rattle.mission.proofs.ThirdDemand.{third-demand, session-is}
+use Rattle.mission.proofs.Listed.{states-snoc, verdicts-snoc}
 use Rattle.lines.specs.declared.Line.{Line}
 use Rattle.lines.specs.Lines.{Reading, state, bad, readings, readingsFrom, empty, readingOf, Filling, filling}
 use Rattle.lines.proofs.Laws.{text-is, badIf, fill-reads, fill-stops}
@@ -43,18 +42,7 @@ either : (t : Bool) {a b c : List ℕ} → a ≡ c → b ≡ c → pick t a b �
 either true e f = e
 either false e f = f
 
--- ---- the session that was opened: it has seen nothing, and is fit
-pick-seen : (t : Bool) (a b : Session) → a .seen ≡ 0 → b .seen ≡ 0 → pick t a b .seen ≡ 0
-pick-seen true a b e f = e
-pick-seen false a b e f = f
-
-pub opened-unseen : (t : Table) (r : ℕ) → opening t r .session .seen ≡ 0
-unfolding opening
-opened-unseen t r = pick-seen (eqb (delayNumber t r) 0) (record { table = t; rule = r; seen = 0 }) noSession refl refl
-
-unseen : (m : Start) → sessionOf m .seen ≡ 0
-unseen m = opened-unseen (m .simplified .table) (m .rule)
-
+-- ---- the session that was opened is fit
 first-fit : (m : Start) → unfit (sessionOf m) ≡ false
 first-fit m = opened-fit (m .simplified .table) (m .rule) (m .opened)
 
@@ -115,18 +103,21 @@ module _ (m : Start) where
       }
 
     -- ---- the session
+    same-session : s ≡ withSeen (sessionOf m) (length fed)
+    same-session = session-is m (r .calls) s h false (r .reached)
+
     seen-is : s .seen ≡ length fed
-    seen-is = ap (λ (q : Session). q .seen) (come (sessionOf m) (m .history) (unseen m) (r .reached) .session)
+    seen-is = ap (λ (q : Session). q .seen) same-session
 
     fit : unfit s ≡ false
-    fit = rw (come (sessionOf m) (m .history) (unseen m) (r .reached) .session) (first-fit m)
+    fit = rw same-session (first-fit m)
 
     -- a rule of a sound table has a short delay
     pub delay-short : delayIn s ≤ 4095
     delay-short =
-        rw (come (sessionOf m) (m .history) (unseen m) (r .reached) .session)
-        (watched-short (sessionOf m .table) (sessionOf m .rule) (sound-iff (sessionOf m .table) .0 (not-false (isSound (sessionOf m .table)) (or-left (not (isSound (sessionOf m .table))) (leb (sessionOf m .table .«rule_count») (sessionOf m .rule)) (first-fit m))))
-        (leb-false (sessionOf m .table .«rule_count») (sessionOf m .rule) (or-right (not (isSound (sessionOf m .table))) (leb (sessionOf m .table .«rule_count») (sessionOf m .rule)) (first-fit m))))
+        let u = m .simplified .table in
+        rw (same-session, opened-is u (m .rule) (m .opened))
+        (watched-short u (m .rule) (opened-sound u (m .rule) (m .opened)) (opened-rule u (m .rule) (m .opened)))
 
     -- no more verdicts than states
     pub few : tick ≤ s .seen
@@ -158,7 +149,7 @@ module _ (m : Start) where
         answer = feeding s waiting h x o
 
         abbrev call : Call
-        call = feed waiting (record { session = s; history = h; scratch = x; out = o; effect = answer })
+        call = record { act = feed waiting; session = s; history = h; scratch = x; out = o; effect = answer }
 
         number-is : answer .answer .number ≡ pick (ltb seenLimit (s .seen + length waiting)) 24 0
         number-is =
@@ -175,7 +166,7 @@ module _ (m : Start) where
             let a : 0 + length (verdictsGiven (r .calls)) ≡ tick = omega (arith, r .next) in
             record {
               calls = r .calls ++ (call ∷ []);
-              reached = accepted-feed waiting _ (r .reached) refl z;
+              reached = accepted call (r .reached) refl z;
               rows = rw (g, rows-append (decimal (ruleName m)) 0 (verdictsGiven (r .calls)) us, a, ← r .rows);
               next = rw (g, length-append (verdictsGiven (r .calls)) us, length-ticks (bitAt (answer .out)) (answer .answer .count)) (omega (arith, r .next));
               blocks = λ b. (let k : length waiting ≡ 1024 = eqb-true (length waiting) 1024 (not-false _ b) in
@@ -218,7 +209,7 @@ module _ (m : Start) where
       closed = closing s h x o
 
       abbrev closeCall : Call
-      closeCall = close (record { session = s; history = h; scratch = x; out = o; effect = closed })
+      closeCall = record { act = close; session = s; history = h; scratch = x; out = o; effect = closed }
 
       pub close-accepted : closed .answer .number ≡ 0
       close-accepted = close-number s h x o ∙ rw (fit, le-ltb (length h) 4095 hh, le-ltb (length x) 5280 hx, le-ltb (length o) 64 ho)
@@ -227,9 +218,9 @@ module _ (m : Start) where
       unfolding printed readingsFrom
       printed-all d none =
           let us = ticks (bitAt (closed .out)) (closed .answer .count) in
-          let c = third-demand .claim m (r .calls ++ (closeCall ∷ [])) (closed .answer .session) (closed .history) true (accepted-close _ (r .reached) refl close-accepted) in
+          let c = third-demand .claim m (r .calls ++ (closeCall ∷ [])) (closed .answer .session) (closed .history) true (accepted closeCall (r .reached) refl close-accepted) in
           let g : verdictsGiven (r .calls ++ (closeCall ∷ [])) ≡ verdictsGiven (r .calls) ++ us = verdicts-snoc (r .calls) closeCall in
-          let t : statesFed (r .calls ++ (closeCall ∷ [])) ≡ fed = states-snoc (r .calls) closeCall ∙ append-nil fed in
+          let t : statesFed (r .calls ++ (closeCall ∷ [])) ≡ fed = states-snoc (r .calls) closeCall ∙ rw (eq-eqb (closed .answer .number) 0 close-accepted) (append-nil fed) in
           let v : verdictsGiven (r .calls) ++ us ≡ ticks (verdictOf m fed) (length fed) = sym g ∙ c .exact ∙ rw t in
           let a : 0 + length (verdictsGiven (r .calls)) ≡ tick = omega (arith, r .next) in
           let k : shown ++ rowsOf (ruleName m) tick us ≡ rowsUpTo m fed (length fed) =

@@ -1,6 +1,6 @@
 -- `watch::begin` meets its contract. Assumes nothing.
 use native.Mathlib.Omega.{arith}
-use Rattle.transcript.proofs.Steps.{opened-unseen}
+use Rattle.session.proofs.Effects.{opened-unseen}
 use Rattle.watch.proofs.Laws.{begins}
 use borrow.Author.Needs.{needs}
 use Rattle.watch.proofs.begin.Statement.{statement}

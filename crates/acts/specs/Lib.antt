@@ -1,0 +1,14 @@
+-- sessions and acts, abstract in what a session has inside
+pub mod World
+-- the claim's words for a list under one rule
+pub mod Claim
+-- lists of calls, and the claim for rules that change
+pub mod Calls
+-- the demand as one statement
+pub mod Demand
+-- what follows: no change, a widening, another measure
+pub mod Corollaries
+-- lists of other calls, each seen as a call of the world
+pub mod Viewed
+-- formulas as a world, and a list worked by hand
+pub mod Example

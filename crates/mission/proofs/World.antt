@@ -1,0 +1,97 @@
+-- Sessions over tables as a world of crate acts, and the calls of this crate as calls of it.
+use Prim.Native.Nat.{ℕ, _<_}
+use mathlib.Core.Path.{_≡_, refl, ap, _∙_}
+use mathlib.Core.Bool.{Bool, true, _||_}
+use mathlib.Core.List.{List, [], _∷_}
+use lib.ListN.{length}
+use lib.Dec.{ltb}
+use Rattle.lists.specs.Choice.{Row, _if_, numbered}
+use Rattle.mltl.specs.Mltl.{Formula, holds, delay}
+use Rattle.mltl.proofs.Stable.{prefix-stable, future-only}
+use Rattle.table.specs.declared.Table.{Table}
+use Rattle.table.specs.Nodes.{noTable, watchedFormula}
+use Rattle.simplify.specs.Promise.{Simpler}
+use Rattle.session.specs.declared.Session.{Session}
+use Rattle.session.specs.Session.{Effect, unfit}
+use Rattle.acts.specs.World.{World, narrow}
+use Rattle.acts.specs.World as world
+use Rattle.acts.specs.Calls as acts
+use Rattle.mission.specs.Calls.{Act, feed, close, Call, verdictsOf}
+
+-- a rule of a table
+pub record Watch : Type 0 where
+  pub table : Table
+  pub rule : ℕ
+
+abbrev pub formula : Watch → Formula
+formula r = watchedFormula (r .table) (r .rule)
+
+-- scratch and out
+pub record Buffers : Type 0 where
+  pub scratch : List ℕ
+  pub out : List ℕ
+
+-- r is the rule b of a table, simplified
+pub record Made (r b : Watch) : Type 0 where
+  pub simpler : Simpler (b .table) (r .table)
+  pub same : r .rule ≡ b .rule
+  pub below : b .rule < b .table .«rule_count»
+
+pub as-made : (r b : Watch) → Made r b → (xs : List ℕ) (t : ℕ) → t < length xs → holds (formula r) xs t ≡ holds (formula b) xs t
+as-made r b m xs t h = ap (λ (k : ℕ). holds (watchedFormula (r .table) k) xs t) (m .same) ∙ m .simpler .verdicts (b .rule) (m .below) xs t h
+
+-- the rows of refusals before 24; there is no widening and no change yet
+abbrev pub bad : Watch → Bool
+bad r = unfit (record { table = r .table; rule = r .rule; seen = 0 })
+
+abbrev pub short : ℕ → List ℕ → Buffers → Bool
+short m h x = ltb (length h) 4095 || ltb (length (x .scratch)) 5280 || ltb (length (x .out)) m
+
+abbrev pub rowsBefore : world.Act Watch Watch → world.Session Watch → List ℕ → Buffers → List Row
+rowsBefore (world.feed block) s h x = (25 if bad (s .rule)) ∷ (22 if ltb 1024 (length block)) ∷ (23 if short 16 h x) ∷ []
+rowsBefore world.close s h x = (25 if bad (s .rule)) ∷ (23 if short 64 h x) ∷ []
+rowsBefore world.widen s h x = []
+rowsBefore (world.change r b) s h x = []
+
+pub numbers : (a : world.Act Watch Watch) (s : world.Session Watch) (h : List ℕ) (x : Buffers) → numbered (rowsBefore a s h x) ≡ true
+numbers (world.feed block) s h x = refl
+numbers world.close s h x = refl
+numbers world.widen s h x = refl
+numbers (world.change r b) s h x = refl
+
+abbrev pub tables : World
+tables = record {
+  Rule = Watch;
+  run = λ r. holds (formula r);
+  D = λ r. delay (formula r);
+  stable = λ r. prefix-stable (formula r);
+  future = λ r. future-only (formula r);
+  Source = Watch;
+  val = λ b. holds (formula b);
+  From = Made;
+  as-read = as-made;
+  Lent = Buffers;
+  rows = rowsBefore;
+  numbers = numbers;
+  noRule = record { table = noTable; rule = 0 };
+}
+
+-- ---- this crate's sessions, effects and calls, seen there: the count of states is narrow, and the first tick 0
+abbrev pub seenSession : Session → world.Session Watch
+seenSession s = record { rule = record { table = s .table; rule = s .rule }; seen = s .seen; firstTick = 0; phase = narrow }
+
+abbrev pub seenAct : Act → world.Act Watch Watch
+seenAct (feed block) = world.feed block
+seenAct close = world.close
+
+abbrev pub seenEffect : (e : Effect) → List Bool → world.Effect tables
+seenEffect e v = record { number = e .answer .number; verdicts = v; session = seenSession (e .answer .session); history = e .history }
+
+abbrev pub seenCall : Call → acts.Call tables
+seenCall c = record {
+  act = seenAct (c .act);
+  session = seenSession (c .session);
+  history = c .history;
+  lent = record { scratch = c .scratch; out = c .out };
+  effect = seenEffect (c .effect) (verdictsOf c);
+}
