@@ -62,8 +62,8 @@ law-agrees x Bottom l r m s e f = refl
 law-agrees x Not l r m s e f = ap lawNot (e refl)
 law-agrees x And l r m s e f = ap₂ (lawJoin 2 3 7 8 x) (e refl) (f refl)
 law-agrees x Or l r m s e f = ap₂ (lawJoin 3 2 8 7 x) (e refl) (f refl)
-law-agrees x Finally l r m s e f = ap (lawOne 3 x) (e refl)
-law-agrees x Globally l r m s e f = ap (lawOne 2 x) (e refl)
+law-agrees x Finally l r m s e f = ap (lawOne _ x) (e refl)
+law-agrees x Globally l r m s e f = ap (lawOne _ x) (e refl)
 law-agrees x Until l r m s e f = ap (lawTwo 3 x) (f refl)
 law-agrees x Release l r m s e f = ap (lawTwo 2 x) (f refl)
 

@@ -118,12 +118,12 @@ module _ (n l r : Node) where
 
   pub moves : LawFits n l r → lawAs n l r (op n) ≡ Stay → ⊥
   moves (not-not a b) e = contra (is-kind l Not (omega arith) b) (negated a e .not-not)
-  moves (F-now a w) e = one 3 (λ m l r. refl) a e .later (w .hi)
-  moves (G-now a w) e = one 2 (λ m l r. refl) a e .later (w .hi)
+  moves (F-now a w) e = one _ (λ m l r. refl) a e .later (w .hi)
+  moves (G-now a w) e = one _ (λ m l r. refl) a e .later (w .hi)
   moves (U-now a w) e = two 3 (λ m l r. refl) a e .later (w .hi)
   moves (R-now a w) e = two 2 (λ m l r. refl) a e .later (w .hi)
-  moves (F-F a b) e = contra (same-kind n l Finally (omega arith) a b) (one 3 (λ m l r. refl) a e .another)
-  moves (G-G a b) e = contra (same-kind n l Globally (omega arith) a b) (one 2 (λ m l r. refl) a e .another)
+  moves (F-F a b) e = contra (same-kind n l Finally (omega arith) a b) (one _ (λ m l r. refl) a e .another)
+  moves (G-G a b) e = contra (same-kind n l Globally (omega arith) a b) (one _ (λ m l r. refl) a e .another)
   moves (F-and-F a b c w) e = inner-moves Finally (omega arith) b c w (both-of a e)
   moves (G-or-G a b c w) e = inner-moves Globally (omega arith) b c w (either-of a e)
   moves (F-or-F a b c w) e = outer-moves Finally (omega arith) b c w (either-of a e)

@@ -79,7 +79,7 @@ module _ (ps : List ℕ) where
   still n l r Not t e = not-still l e
   still n l r And t e = let d = t refl refl in join-still 2 3 7 8 refl refl n l r (d .left) (d .right) (d .operands) e
   still n l r Or t e = let d = t refl refl in join-still 3 2 8 7 refl refl n l r (d .left) (d .right) (d .operands) e
-  still n l r Finally t e = one-still n l 3 e
-  still n l r Globally t e = one-still n l 2 e
+  still n l r Finally t e = one-still n l _ e
+  still n l r Globally t e = one-still n l _ e
   still n l r Until t e = two-still n r 3 e
   still n l r Release t e = two-still n r 2 e

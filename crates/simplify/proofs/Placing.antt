@@ -105,7 +105,7 @@ module _ (ns : List Node) (fits : AllFit ns) (free : (k : ℕ) → k < length ns
     placed-as Not e = not-placed e
     placed-as And e = join-placed 2 3 7 8 (left-before (length ns) n w e refl) (right-before (length ns) n w e refl)
     placed-as Or e = join-placed 3 2 8 7 (left-before (length ns) n w e refl) (right-before (length ns) n w e refl)
-    placed-as Finally e = one-placed Finally e 3 refl (λ m l r. refl) (λ m x y. omega arith)
+    placed-as Finally e = one-placed Finally e _ refl (λ m l r. refl) (λ m x y. omega arith)
     placed-as Globally e = one-placed Globally e 2 refl (λ m l r. refl) (λ m x y. omega arith)
     placed-as Until e = two-placed 3 (right-before (length ns) n w e refl)
     placed-as Release e = two-placed 2 (right-before (length ns) n w e refl)
