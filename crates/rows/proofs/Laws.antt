@@ -3,7 +3,7 @@ use mathlib.Core.Path.{_≡_, refl, sym, ap, _∙_}
 use mathlib.Core.Logic.{_⊎_, inl, inr, ⊎-elim}
 use mathlib.Core.Bool.{Bool, true, false, _||_}
 use mathlib.Core.List.{List, [], _∷_, _++_, append-assoc, append-nil}
-use Prim.Native.Nat.{ℕ, zero, suc, _+_, _-_, _/_, _%_, _^_, _≤_, _<_}
+use Prim.Native.Nat.{ℕ, zero, suc, _+_, _-_, _*_, _/_, _%_, _^_, _≤_, _<_}
 use native.Mathlib.Nat.{add-zero, eq-or-lt-of-le, pow-le-pow-right, pow-succ'}
 use native.Mathlib.Numerals.{add-one}
 use native.Mathlib.Omega.{arith}
@@ -12,7 +12,7 @@ use lib.Dec.{eqb, ltb}
 use lib.ListN.{length, take, drop, getD, set, length-append}
 use lib.Seq.{sets, sets-eq, take-append-seam, length-sets, take-suc, length-take-le}
 use Rattle.io.specs.Digits.{digits, Fewest, glyph}
-use Rattle.lists.proofs.Tests.{lt-or-le}
+use Rattle.lists.proofs.Tests.{lt-or-le, same-test as equal-tests, ltb-iff, eqb-iff}
 use Rattle.lists.proofs.Sequences.{sets-append, ticks-snoc, length-ticks}
 use Rattle.rows.specs.Rows.{Put, placesFrom, decimal, row, rowsFrom, front, ended, Fronted, fitting}
 use Rattle.lists.specs.Choice.{pick}
@@ -97,7 +97,7 @@ glyph-is : (d : ℕ) → d < 10 → glyph d ≡ 48 + d
 glyph-is d h = rw (lt-ltb d 10 h)
 
 -- a number in decimal is all its digits but the last, and the last
-decimal-last : (n : ℕ) → n < 2 ^ 64 → decimal n ≡ pick (ltb n 10) [] (decimal (n / 10)) ++ ((48 + n % 10) ∷ [])
+decimal-last : (n : ℕ) → n < 100000000000000000000 → decimal n ≡ pick (ltb n 10) [] (decimal (n / 10)) ++ ((48 + n % 10) ∷ [])
 unfolding decimal
 decimal-last n h =
     ⊎-elim
@@ -108,15 +108,34 @@ decimal-last n h =
     let k = placesFrom 19 1 (n / 10) in
     let w : Fewest 10 1 (n / 10) k = places-found 19 1 (n / 10) (omega arith) (λ l. absurd (omega arith)) (omega arith) in
     let v = fewest-suc n k le w in
-    sym (decimal-is n (suc k) (places-20 n (suc k) h v) v) ∙ rw (le-ltb n 10 le, glyph-is (n % 10) (omega arith)))
+    sym (decimal-is n (suc k) (places-most 20 n (suc k) (omega arith) h v) v) ∙ rw (le-ltb n 10 le, glyph-is (n % 10) (omega arith)))
     (lt-or-le n 10)
+
+-- the sum of two numbers of 64 bits
+carry : (x y u v : ℕ) → (10 * x + u + (10 * y + v)) / 10 ≡ x + y + (u + v) / 10
+carry x y u v = omega arith
+
+carried : (x y u v : ℕ) → (10 * x + u + (10 * y + v)) % 10 ≡ (u + v) % 10
+carried x y u v = omega arith
+
+none-high : (x y u v : ℕ) → ltb (10 * x + u + (10 * y + v)) 10 ≡ eqb (x + y + (u + v) / 10) 0
+none-high x y u v =
+    equal-tests _ _ (ltb-iff (10 * x + u + (10 * y + v)) 10) (eqb-iff (x + y + (u + v) / 10) 0) (λ l. omega arith) (λ l. omega arith)
+
+pub sum-is : (a b : ℕ) → a < 2 ^ 64 → b < 2 ^ 64
+    → let low = a % 10 + b % 10 in pick (eqb (a / 10 + b / 10 + low / 10) 0) [] (decimal (a / 10 + b / 10 + low / 10)) ++ ((48 + low % 10) ∷ []) ≡ decimal (a + b)
+sum-is a b h k =
+    let e : a + b ≡ 10 * (a / 10) + a % 10 + (10 * (b / 10) + b % 10) = omega arith in
+    sym
+    (decimal-last (a + b) (omega arith)
+    ∙ rw (e, none-high (a / 10) (b / 10) (a % 10) (b % 10), carry (a / 10) (b / 10) (a % 10) (b % 10), carried (a / 10) (b / 10) (a % 10) (b % 10)))
 
 -- ---- a row in two parts
 row-is : (name : List ℕ) (tick v : ℕ) → tick < 2 ^ 64 → row name tick v ≡ ended (front name tick) tick v
 unfolding row
 row-is name tick v h =
     let xs = pick (ltb tick 10) [] (decimal (tick / 10)) in
-    let d : decimal tick ≡ xs ++ ((48 + tick % 10) ∷ []) = decimal-last tick h in
+    let d : decimal tick ≡ xs ++ ((48 + tick % 10) ∷ []) = decimal-last tick (omega arith) in
     rw (d, append-assoc xs ((48 + tick % 10) ∷ []) (32 ∷ (48 + v) ∷ 10 ∷ []))
     (sym (append-assoc name (32 ∷ xs) ((48 + tick % 10) ∷ 32 ∷ (48 + v) ∷ 10 ∷ [])))
 
@@ -165,12 +184,17 @@ pub rows-none : (name buffer : List ℕ) (tick : ℕ) (f : ℕ → Bool) → Put
 unfolding rowsFrom
 rows-none name buffer tick f = record { list = refl; place = omega arith; room = omega arith }
 
+-- the tick after the last passes 64 bits, as the code tests it
+pub past-last : (tick count : ℕ) → tick < 2 ^ 64 → ltb (18446744073709551615 - tick) count ≡ ltb 18446744073709551615 (tick + count)
+past-last tick count h =
+    equal-tests _ _ (ltb-iff (18446744073709551615 - tick) count) (ltb-iff 18446744073709551615 (tick + count)) (λ l. omega arith) (λ l. omega arith)
+
 -- rows that do not fit are not put, and rows that fit are
 module _ (name tick : ℕ) (words : List ℕ) (count : ℕ) (old : List ℕ) where
-  pub put-none : (ltb 4096 count || ltb 9223372036854775807 tick) ≡ true → Put old 0 (fitting name tick words count) old 0
+  pub put-none : (ltb 4096 count || ltb 18446744073709551615 (tick + count)) ≡ true → Put old 0 (fitting name tick words count) old 0
   put-none e = rw e (record { list = refl; place = omega arith; room = omega arith })
 
-  pub put-fitting : (new : List ℕ) (n : ℕ) (xs : List ℕ) → (ltb 4096 count || ltb 9223372036854775807 tick) ≡ false → xs ≡ decimal name
+  pub put-fitting : (new : List ℕ) (n : ℕ) (xs : List ℕ) → (ltb 4096 count || ltb 18446744073709551615 (tick + count)) ≡ false → xs ≡ decimal name
       → Put old 0 (rowsFrom xs tick (ticks (bitAt words) count)) new n → Put old 0 (fitting name tick words count) new n
   put-fitting new n xs e d p = rw (e, ← d) p
 

@@ -11,7 +11,7 @@ use Rattle.lists.specs.Choice.{pick}
 use Rattle.lists.specs.Sequence.{ticks}
 use Rattle.lists.specs.Bits.{bitAt, digit}
 
--- ---- a number below 2^64 in decimal, with no zero in front
+-- ---- a number below 10^20 in decimal, with no zero in front
 -- how many digits n has, at least k, by a search of f steps
 unfoldable pub placesFrom : ℕ → ℕ → ℕ → ℕ
 placesFrom zero k n = k
@@ -34,7 +34,7 @@ rowsOf name = rowsFrom (decimal name)
 
 -- the rows of the first `count` verdicts of some words; none where they would not fit
 abbrev pub fitting : ℕ → ℕ → List ℕ → ℕ → List ℕ
-fitting name tick words count = pick (ltb 4096 count || ltb 9223372036854775807 tick) [] (rowsOf name tick (ticks (bitAt words) count))
+fitting name tick words count = pick (ltb 4096 count || ltb 18446744073709551615 (tick + count)) [] (rowsOf name tick (ticks (bitAt words) count))
 
 -- ---- `book NUMBER RECORD`, `bad line N`, `feed NUMBER`
 abbrev pub bookLine : ℕ → ℕ → List ℕ

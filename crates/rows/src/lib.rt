@@ -2,8 +2,10 @@
 ghost use mathlib.Core.Path.{_≡_};
 ghost use Prim.Native.Nat.{_+_, _-_, _*_, _^_, _≤_, _<_};
 ghost use mathlib.Core.List.{[], _∷_};
+ghost use lib.Dec.{eqb};
 ghost use lib.ListN.{length};
 ghost use lib.Seq.{sets};
+ghost use Rattle.lists.specs.Choice.{pick};
 ghost use Rattle.lists.specs.Bits.{bitAt, digit};
 ghost use Rattle.lists.specs.Sequence.{ticks};
 ghost use Rattle.rows.specs.Rows.{Put, decimal, rowsFrom, ended, Fronted, fitting, bookLine, badLine, feedLine};
@@ -11,7 +13,7 @@ ghost use Rattle.rows.specs.Rows.{Put, decimal, rowsFrom, ended, Fronted
 // A text has 131,072 bytes: 4,096 rows, each of 32 bytes at most.
 
 // Rows for `count` verdicts, the first of them that of `tick`: verdict i is bit i % 64 of word i / 64. Answers how many bytes they take, from the
-// text's start; none for more than 4,096 rows, or ticks of 64 bits.
+// text's start; none for more than 4,096 rows, or where the tick after the last passes 64 bits.
 pub fn put_rows(
     text: &mut [u8; 131072],
     name: u16,
@@ -21,7 +23,7 @@ pub fn put_rows(
 ) -> usize
     ensures { λ r. ⌜ Put (now (text .entry)) 0 (fitting name tick (now (words .entry)) count) (now (text .exit)) r ⌝ }
 {
-    if (count > 4096) | (tick > 9223372036854775807) {
+    if (count > 4096) | (18446744073709551615 - tick < count as u64) {
         return 0;
     }
     let mut digits = [0u8; 20];
@@ -40,12 +42,12 @@ pub fn put_book(text: &mut [u8; 131072], number: u8, place: u8) -> usize
     put_byte(text, d, 10)
 }
 
-// `bad line N`
-pub fn put_bad_line(text: &mut [u8; 131072], n: u64) -> usize
-    ensures { λ r. ⌜ Put (now (text .entry)) 0 (badLine n) (now (text .exit)) r ⌝ }
+// `bad line N`, where N is the sum of two numbers, which may pass 64 bits.
+pub fn put_bad_line(text: &mut [u8; 131072], before: u64, more: u64) -> usize
+    ensures { λ r. ⌜ Put (now (text .entry)) 0 (badLine (before + more)) (now (text .exit)) r ⌝ }
 {
     let a = put(text, 0, b"bad line ");
-    let b = put_number(text, a, n);
+    let b = put_sum(text, a, before, more);
     put_byte(text, b, 10)
 }
 
@@ -128,6 +130,29 @@ fn put_number(out: &mut [u8], at: usize, n: u64) -> usize
     let mut digits = [0u8; 20];
     let k = io::decimal(n, &mut digits);
     put(out, at, &digits[..k])
+}
+
+// The same, but nothing for 0.
+fn put_positive(out: &mut [u8], at: usize, n: u64) -> usize
+    requires { ⌜ at + 20 ≤ length (now out) ⌝ }
+    ensures { λ r. ⌜ Put (now (out .entry)) at (pick (eqb n 0) [] (decimal n)) (now (out .exit)) r ⌝ }
+    ensures { λ r. ⌜ r ≤ at + 20 ⌝ }
+{
+    if n == 0 {
+        return at;
+    }
+    put_number(out, at, n)
+}
+
+// The sum of two numbers in decimal: all its digits but the last, and the last.
+fn put_sum(out: &mut [u8], at: usize, a: u64, b: u64) -> usize
+    requires { ⌜ at + 21 ≤ length (now out) ⌝ }
+    ensures { λ r. ⌜ Put (now (out .entry)) at (decimal (a + b)) (now (out .exit)) r ⌝ }
+    ensures { λ r. ⌜ r ≤ at + 21 ⌝ }
+{
+    let low = a % 10 + b % 10;
+    let c = put_positive(out, at, a / 10 + b / 10 + low / 10);
+    put_byte(out, c, 48 + (low % 10) as u8)
 }
 
 fn put_byte(out: &mut [u8], at: usize, b: u8) -> usize

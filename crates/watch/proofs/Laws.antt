@@ -1,5 +1,6 @@
 -- The steps of the program, over the effects of the calls that they make. Assumes nothing.
 use Prim.Native.Nat.{ℕ, suc, _+_, _-_, _≤_, _<_, min}
+use native.Mathlib.Nat.{add-assoc}
 use native.Mathlib.Omega.{arith}
 use mathlib.Core.Path.{_≡_, refl, sym, ap, subst, _∙_}
 use mathlib.Core.Bool.{Bool, true, false, not, _||_, false≢true, true≢false}
@@ -37,7 +38,7 @@ use Rattle.watch.specs.Steps.{Runs, Follows, Begins, Ready, Fed, Steps, 
 
 -- rows that fit, at the start of the text
 fitting-is : (name tick : ℕ) (words : List ℕ) (count : ℕ) → count ≤ 4096 → tick ≤ 4294967295 → fitting name tick words count ≡ rowsOf name tick (ticks (bitAt words) count)
-fitting-is name tick words count h k = rw (le-ltb 4096 count h, le-ltb 9223372036854775807 tick (omega arith))
+fitting-is name tick words count h k = rw (le-ltb 4096 count h, le-ltb 18446744073709551615 (tick + count) (omega arith))
 
 -- no row of a feed's refusals fits, so the last does not
 last-test : (p q r s : Bool) → _≡_ {A = ℕ} (pick p 25 (pick q 22 (pick r 23 (pick s 24 0)))) 0 → s ≡ false
@@ -301,13 +302,13 @@ module _ (p : Progress) (part : List ℕ) (at : ℕ) (h block : List ℕ) (ready
     pub block-size : length b' ≡ 1024
     block-size = rw bs (length-sets block (p .count) (f .states)) ∙ size
 
-    pub bad-step : (text text' : List ℕ) (used : ℕ) → q .bad ≡ true → Put text 0 (badLine (p .session .seen + q .count + 1)) text' used
+    pub bad-step : (text text' : List ℕ) (used : ℕ) → q .bad ≡ true → Put text 0 (badLine (p .session .seen + (q .count + 1))) text' used
         → Steps p part at h block h b' text' (record {
           progress = record { session = p .session; name = p .name; line = q .line; count = q .count; tick = p .tick; going = false };
           at = q .at;
           used = used;
         })
-    bad-step text text' used =
+    bad-step text text' used e put =
         rw bs
         (subst
         (λ (y : Filled). y .bad ≡ true → Put text 0 (badLine (p .session .seen + y .count + 1)) text' used
@@ -316,7 +317,7 @@ module _ (p : Progress) (part : List ℕ) (at : ℕ) (h block : List ℕ) (ready
           at = y .at;
           used = used;
         }))
-        (sym is) (step-bad text text' used))
+        (sym is) (step-bad text text' used) e (subst (λ (n : ℕ). Put text 0 (badLine n) text' used) (sym (add-assoc (p .session .seen) (q .count) 1)) put))
 
     pub part-step : (text : List ℕ) → q .bad ≡ false → q .count < 1024
         → Steps p part at h block h b' text (record {

@@ -48,7 +48,7 @@ fn step(
     let rest = f.line;
     let session = p.session;
     if f.bad {
-        let used = rows::put_bad_line(text, session.seen as u64 + f.count as u64 + 1);
+        let used = rows::put_bad_line(text, session.seen as u64, f.count as u64 + 1);
         return Outcome {
             progress: Progress {
                 session,

@@ -1,26 +1,12 @@
--- `rows::put_bad_line` meets its contract. Assumes nothing.
+-- The words, the number and the line's end. Assumes nothing.
 use Rattle.rows.proofs.Laws.{put-then}
 use borrow.Author.Needs.{needs}
 use Rattle.rows.proofs.put_bad_line.Statement.{statement}
 use Rattle.rows.proofs.put_bad_line.Tie as tie
 
-slice-aggregate-put : tie.Need-slice-aggregate-put
-slice-aggregate-put c = search needs
-
-put-requires : tie.Need-put-requires
-put-requires c κs = search needs
-
-put-number-requires : tie.Need-put-number-requires
-put-number-requires c κs = search needs
-
-put-byte-requires : tie.Need-put-byte-requires
-put-byte-requires c κs = search needs
-
 returns : tie.Need-returns
 returns c =
-    put-then (c .before .before .before .before .put .ensures) (put-then (c .before .before .put-number .ensures .0) (c .put-byte .ensures))
+    put-then (c .before .before .before .before .put .ensures) (put-then (c .before .before .put-sum .ensures .0) (c .put-byte .ensures))
 
 pub put-bad-line-spec : {M : Type 1} → statement M
-put-bad-line-spec =
-    tie.close
-    (tie.spec slice-aggregate-put put-requires put-number-requires put-byte-requires returns)
+put-bad-line-spec = tie.close (tie.spec (search needs) (search needs) (search needs) (search needs) returns)

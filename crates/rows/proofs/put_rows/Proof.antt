@@ -1,55 +1,52 @@
--- `rows::put_rows` meets its contract. Assumes nothing.
+-- Rows are put where they fit. Assumes nothing.
 use native.Mathlib.Omega.{arith}
-use Prim.Native.Nat.{_≤_}
-use mathlib.Core.Path.{_≡_, _∙_}
+use Prim.Native.Nat.{_+_, _-_, _≤_}
+use mathlib.Core.Path.{_≡_, sym, ap, _∙_}
+use mathlib.Core.Bool.{Bool, false, _||_}
 use borrow.Author.Tests.{ltb-false}
 use lib.Dec.{ltb}
 use lib.ListN.{length}
 use Rattle.lists.proofs.Tests.{or-left, or-right}
-use Rattle.rows.specs.Rows.{decimal}
-use Rattle.rows.proofs.Laws.{put-none, put-fitting, decimal-is, places-most}
+use Rattle.rows.proofs.Laws.{put-none, put-fitting, past-last, decimal-is, places-most}
 use borrow.Author.Needs.{needs}
 use Rattle.rows.proofs.put_rows.Statement.{statement}
 use Rattle.rows.proofs.put_rows.Tie as tie
 
+-- the test of the code is that of the definition
+test : (c : tie.Start) → (ltb 4096 (c .args .count) || ltb (18446744073709551615 - c .args .tick) (c .args .count)) ≡ (ltb 4096 (c .args .count) || ltb 18446744073709551615 (c .args .tick + c .args .count))
+test c = ap (λ (b : Bool). ltb 4096 (c .args .count) || b) (past-last (c .args .tick) (c .args .count) (c .fits .tick .fits))
+
 returns : tie.Need-returns
-returns c = put-none (c .before .args .name) (c .before .args .tick) (c .before .args .words .now) (c .before .args .count) (c .before .args .text .now) (c .if1 .taken)
+returns c =
+    let s = c .before in
+    put-none (s .args .name) (s .args .tick) (s .args .words .now) (s .args .count) (s .args .text .now) (sym (test s) ∙ c .if1 .taken)
 
-decimal-requires : tie.Need-decimal-requires
-decimal-requires c κs = search needs
-
-array-share-prefix-digits : tie.Need-array-share-prefix-digits
-array-share-prefix-digits c = search needs
-
-slice-aggregate-put-each : tie.Need-slice-aggregate-put-each
-slice-aggregate-put-each c = search needs
+-- where it is false
+fits : (c : tie.Else1) → (c .before .args .count ≤ 4096) × (c .before .args .tick + c .before .args .count ≤ 18446744073709551615)
+fits c =
+    let a = c .before .args in
+    let e = sym (test (c .before)) ∙ c .if1 .left in
+    (ltb-false 4096 (a .count) (or-left (ltb 4096 (a .count)) (ltb 18446744073709551615 (a .tick + a .count)) e), ltb-false 18446744073709551615 (a .tick + a .count) (or-right (ltb 4096 (a .count)) (ltb 18446744073709551615 (a .tick + a .count)) e))
 
 put-each-requires : tie.Need-put-each-requires
 put-each-requires c κs =
-    let a = c .before .before .before .before .before .before in
-    let t = ltb-false 4096 (a .args .count) (or-left (ltb 4096 (a .args .count)) (ltb 9223372036854775807 (a .args .tick)) (c .before .before .before .before .before .if1 .left)) in
-    let u = ltb-false 9223372036854775807 (a .args .tick) (or-right (ltb 4096 (a .args .count)) (ltb 9223372036854775807 (a .args .tick)) (c .before .before .before .before .before .if1 .left)) in
+    let e = c .before .before .before .before .before in
+    let a = e .before in
+    let f = fits e in
     let d = c .before .before .before .decimal in
     let n : 131072 ≡ length (a .args .text .now) = search needs in
     let m : 64 ≡ length (a .args .words .now) = search needs in
     let k : d .result ≤ 5 = places-most 5 (a .args .name) (d .result) (omega arith) (omega (arith, a .fits .name .fits)) (d .ensures .1 .0) in
-    (omega (arith, n, t), omega (arith, d .ensures .0 .1, k), omega (arith, m, t), omega (arith, t, u))
+    (omega (arith, n, f .0), omega (arith, d .ensures .0 .1, k), omega (arith, m, f .0), omega (arith, f .1))
 
 returns-2 : tie.Need-returns-2
 returns-2 c =
-    let a = c .before .before .before .before .before .before .before in
+    let e = c .before .before .before .before .before .before in
+    let a = e .before in
     let d = c .before .before .before .before .decimal in
     let k = places-most 5 (a .args .name) (d .result) (omega arith) (omega (arith, a .fits .name .fits)) (d .ensures .1 .0) in
-    let e = d .ensures .1 .1 ∙ decimal-is (a .args .name) (d .result) (omega (arith, k)) (d .ensures .1 .0) in
-    put-fitting (a .args .name) (a .args .tick) (a .args .words .now) (a .args .count) (a .args .text .now) (c .put-each .last .0) (c .put-each .result) _ (c .before .before .before .before .before .before .if1 .left) e (c .put-each .ensures)
+    let p = d .ensures .1 .1 ∙ decimal-is (a .args .name) (d .result) (omega (arith, k)) (d .ensures .1 .0) in
+    put-fitting (a .args .name) (a .args .tick) (a .args .words .now) (a .args .count) (a .args .text .now) (c .put-each .last .0) (c .put-each .result) _ (sym (test a) ∙ e .if1 .left) p (c .put-each .ensures)
 
 pub put-rows-spec : {M : Type 1} → statement M
-put-rows-spec =
-    tie.close
-    (tie.spec
-    returns
-    decimal-requires
-    array-share-prefix-digits
-    slice-aggregate-put-each
-    put-each-requires
-    returns-2)
+put-rows-spec = tie.close (tie.spec (search needs) returns (search needs) (search needs) (search needs) put-each-requires returns-2)

@@ -7,20 +7,11 @@ use Rattle.watch.proofs.step.Tie as tie
 fill-requires : tie.Need-fill-requires
 fill-requires c κs = search needs
 
-cast-put-bad-line : tie.Need-cast-put-bad-line
-cast-put-bad-line c = search needs
-
 add-put-bad-line : tie.Need-add-put-bad-line
 add-put-bad-line c =
     let s = c .before .before .before .before .before .before .before .before .before .before .before .before in
     let q = c .before .before .before .before .before .before .before .fill in
-    search (needs, s .pre .0 .counted, few-lines (s .args .p) (s .args .part .now) (s .args .at) (s .args .history .now) (s .args .block .now) (s .pre .0) (s .pre .1) (q .result) (q .last .1 .1 .1 .0) (q .ensures .0) (q .ensures .1))
-
-add-put-bad-line-2 : tie.Need-add-put-bad-line-2
-add-put-bad-line-2 c =
-    let s = c .before .before .before .before .before .before .before .before .before .before .before .before in
-    let q = c .before .before .before .before .before .before .before .fill in
-    search (needs, s .pre .0 .counted, few-lines (s .args .p) (s .args .part .now) (s .args .at) (s .args .history .now) (s .args .block .now) (s .pre .0) (s .pre .1) (q .result) (q .last .1 .1 .1 .0) (q .ensures .0) (q .ensures .1))
+    search (needs, few-lines (s .args .p) (s .args .part .now) (s .args .at) (s .args .history .now) (s .args .block .now) (s .pre .0) (s .pre .1) (q .result) (q .last .1 .1 .1 .0) (q .ensures .0) (q .ensures .1))
 
 put-bad-line-requires : tie.Need-put-bad-line-requires
 put-bad-line-requires c κs = search needs
@@ -63,9 +54,8 @@ step-spec =
     tie.close
     (tie.spec
     fill-requires
-    cast-put-bad-line
+    (search needs)
     add-put-bad-line
-    add-put-bad-line-2
     put-bad-line-requires
     same-length
     returns
