@@ -5,10 +5,10 @@ use Rattle.lists.specs.Bits.{bit, number, wordAt, pack, packed}
 use Rattle.lists.specs.Sequence.{every, chain}
 use Rattle.mltl.specs.Mltl.{holds, delay, someFrom, someTick, everyTick, eventually, until, opposite, always, release}
 use Rattle.interval.specs.Parts.{largestTo, left, partsTo, parts}
-use Rattle.table.specs.Sound.{isSound}
+use Rattle.table.specs.Sound.{isSoundBy}
 use Rattle.session.specs.Session.{opening, feeding, closing}
 use Rattle.mission.specs.Rows.{rows, computed, printed}
 
 pub marked-rows : map computed rows ≡ map printed rows
-unfolding bit number wordAt pack packed every chain delay isSound opening feeding closing holds someFrom someTick everyTick eventually until opposite always release largestTo left partsTo parts
+unfolding bit number wordAt pack packed every chain delay isSoundBy opening feeding closing holds someFrom someTick everyTick eventually until opposite always release largestTo left partsTo parts
 marked-rows = refl
