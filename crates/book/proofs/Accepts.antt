@@ -20,8 +20,8 @@ use Rattle.book.specs.Keeps.{Size, Head, Linked, Along, over, on, Keeps}
 use Rattle.book.proofs.Tests.{Sized, head-clear}
 use Rattle.book.proofs.Among.{collect-length}
 use Rattle.book.proofs.Going.{At, fuelled, starts, further}
-use Rattle.book.proofs.Kept.{kept, keeping, is-linked}
-use Rattle.book.proofs.Stands.{ruleIn, next-is}
+use Rattle.book.proofs.Kept.{kept, keeping, is-linked, next-is}
+use Rattle.book.proofs.Stands.{ruleIn}
 
 -- ---- the end
 finished-is : (s chain : List ℕ) → 1 ≤ length (rules s chain) → finished s chain ≡ accepted (tableOf s chain)

@@ -1,19 +1,16 @@
 -- Laws of numbers among others, of the records that a test picks, and of what is collected along a chain. Assumes nothing.
 use mathlib.Core.Path.{_≡_, refl, sym, ap, _∙_}
-use mathlib.Core.Bool.{Bool, true, false, _&&_, _||_, not, true≢false, false≢true, or-assoc, or-false, and-false, or-true}
+use mathlib.Core.Bool.{Bool, true, false, _&&_, _||_, true≢false, false≢true, or-assoc, or-false, and-false, or-true}
 use mathlib.Core.List.{List, [], _∷_, _++_, map, append-assoc, append-nil, List·Memᴰ, List·Memᴰ·head, List·Memᴰ·tail, List·Memᴰ·not-nil, List·Memᴰ·cases-cons}
 use mathlib.Core.Logic.{_⊎_, ⊎-elim, _↔_}
-use Prim.Native.Nat.{ℕ, zero, suc, _+_, _≤_}
+use Prim.Native.Nat.{ℕ, suc, _<_}
 use native.Mathlib.Omega.{arith}
-use borrow.Author.Tests.{eqb-true, eqb-false, eq-eqb, ne-eqb, lt-ltb, le-ltb}
-use lib.Dec.{ltb, eqb}
-use lib.ListN.{length, replicate}
+use borrow.Author.Tests.{eqb-true, eqb-false, eq-eqb, ne-eqb}
+use lib.Dec.{eqb}
+use lib.ListN.{length}
 use Rattle.lists.specs.Choice.{pick}
-use Rattle.lists.specs.Sequence.{among, every}
+use Rattle.lists.specs.Sequence.{among}
 use Rattle.lists.proofs.Tests.{or-split, or-left, or-right, true-or-false}
-use Rattle.table.specs.Nodes.{noRule}
-use Rattle.table.specs.Sound.{differs}
-use Rattle.table.specs.declared.Rule.{Rule}
 use Rattle.book.proofs.Tests.{neither}
 use Rattle.book.specs.Reading.{index, filter, collect}
 
@@ -30,13 +27,6 @@ not-among k xs h = ⊎-elim (λ e. absurd (h (among-iff k xs .0 e))) (λ e. e) (
 
 pub among-not : (k : ℕ) (xs : List ℕ) → among k xs ≡ false → ¬ (List·Memᴰ k xs)
 among-not k xs h m = true≢false (sym (among-iff k xs .1 m) ∙ h)
-
-pub eqb-comm : (a b : ℕ) → eqb a b ≡ eqb b a
-eqb-comm a b = go (eqb b a) refl
-  where
-    go : (t : Bool) → eqb b a ≡ t → eqb a b ≡ t
-    go true e = eq-eqb a b (sym (eqb-true b a e))
-    go false e = ne-eqb a b (λ p. eqb-false b a e (sym p))
 
 pub eqb-suc : (a b : ℕ) → eqb (suc a) (suc b) ≡ eqb a b
 eqb-suc a b = go (eqb a b) refl
@@ -133,29 +123,14 @@ index-new (x ∷ xs) k h = go (eqb k x) refl (λ i. index-new xs k i)
     go true e i = absurd (true≢false (rw e at h))
     go false e i = ap suc (i (rw e at h))
 
--- a name among those of the rules before the free places
-module _ (c name : ℕ) where
-  free-differs : (i m : ℕ) → c ≤ i → every (differs c name) i (replicate m noRule) ≡ true
-  unfolding every
-  free-differs i zero h = refl
-  free-differs i (suc m) h = rw (le-ltb i c h) (free-differs (suc i) m (omega arith))
-
-  named : (i : ℕ) (rs : List Rule) (m : ℕ) → c ≡ i + length rs
-      → not (every (differs c name) i (rs ++ replicate m noRule)) ≡ among name (map (λ (r : Rule). r .name) rs)
-  unfolding every
-  named i [] m e = rw (free-differs i m (omega arith))
-  named i (r ∷ rs) m e =
-      go (eqb (r .name) name) (eqb-comm name (r .name)) (named (suc i) rs m (omega arith))
-    where
-      go : (t : Bool) → eqb name (r .name) ≡ t
-          → not (every (differs c name) (suc i) (rs ++ replicate m noRule)) ≡ among name (map (λ (r : Rule). r .name) rs)
-          → not (not (ltb i c && t) && every (differs c name) (suc i) (rs ++ replicate m noRule)) ≡ (eqb name (r .name) || among name (map (λ (r : Rule). r .name) rs))
-      go true p h = rw (lt-ltb i c (omega arith), p)
-      go false p h = rw (lt-ltb i c (omega arith), p) h
-
-  pub name-among : (rs : List Rule) (m : ℕ) → c ≡ length rs
-      → not (every (differs c name) 0 (rs ++ replicate m noRule)) ≡ among name (map (λ (r : Rule). r .name) rs)
-  name-among rs m e = named 0 rs m (omega arith)
+-- the index of one that is there is a place
+pub index-lt : (xs : List ℕ) (k : ℕ) → among k xs ≡ true → index xs k < length xs
+index-lt [] k h = absurd (false≢true h)
+index-lt (x ∷ xs) k h = go (eqb k x) refl (λ i. index-lt xs k i)
+  where
+    go : (t : Bool) → eqb k x ≡ t → (among k xs ≡ true → index xs k < length xs) → pick t 0 (suc (index xs k)) < suc (length xs)
+    go true e i = omega arith
+    go false e i = omega (arith, i (rw e at h))
 
 -- ---- a name among those of the rules
 module _ (f : ℕ → ℕ) (v : ℕ) where

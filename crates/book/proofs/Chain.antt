@@ -14,7 +14,7 @@ use Rattle.table.specs.Nodes.{noNode, noRule}
 use Rattle.table.specs.declared.Rule.{Rule}
 use Rattle.book.specs.declared.Entry.{Entry}
 use Rattle.book.specs.declared.Reading.{Reading}
-use Rattle.book.specs.Entries.{entryOf, isNode, isRule, badLength, badHead}
+use Rattle.book.specs.Entries.{entryOf, isNode, isRule, nameOf, badLength, badHead}
 use Rattle.book.specs.Reading.{filter, nodeAt, ruleAt, nodesIn, rulesIn, nodeOf, ruleOf, collect, nodes, rules, linkFault, rows, fault, headFault, refused, accepted, unless, finished, along, reading}
 use Rattle.book.specs.Chain.{OnChain, head, next, Read, start, linked, then, SameRecord, SameChain, SameRead}
 use Rattle.book.proofs.Among.{collect-map}
@@ -89,10 +89,10 @@ module _ (s u : List ℕ) where
     rules-are : rules s b ≡ rules u b
     rules-are = collect-same Same (ruleAt s) (ruleAt u) rule-test (ruleIn s) (ruleIn u) rule-in [] b none h
 
-    names : (t : List ℕ) → map (λ q. entryOf t q .arg) (rulesIn t b) ≡ map (λ (x : Rule). x .name) (rules t b)
-    names t = sym (collect-map (ruleAt t) (ruleIn t) (λ (x : Rule). x .name) (λ q. entryOf t q .arg) (λ a x. refl) [] b)
+    names : (t : List ℕ) → map (λ q. nameOf (entryOf t q)) (rulesIn t b) ≡ map (λ (x : Rule). x .name) (rules t b)
+    names t = sym (collect-map (ruleAt t) (ruleIn t) (λ (x : Rule). x .name) (λ q. nameOf (entryOf t q)) (λ a x. refl) [] b)
 
-    names-are : map (λ q. entryOf s q .arg) (rulesIn s b) ≡ map (λ q. entryOf u q .arg) (rulesIn u b)
+    names-are : map (λ q. nameOf (entryOf s q)) (rulesIn s b) ≡ map (λ q. nameOf (entryOf u q)) (rulesIn u b)
     names-are = names s ∙ ap (map (λ (x : Rule). x .name)) rules-are ∙ sym (names u)
 
     fault-same : (r : ℕ) → Same r → fault s b r ≡ fault u b r

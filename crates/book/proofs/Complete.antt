@@ -20,19 +20,20 @@ use Rattle.table.specs.Sound.{NodeFits, RuleFits, Sound}
 use Rattle.table.specs.declared.Node.{Node}
 use Rattle.table.specs.declared.Table.{Table}
 use Rattle.table.proofs.Delays.{formula-at, delay-of}
+use Rattle.builder.proofs.Sound.{uses-arg}
 use Rattle.book.specs.declared.Entry.{Entry}
 use Rattle.book.specs.declared.Reading.{Reading}
-use Rattle.book.specs.Entries.{Bytes, entryOf, isNode, isRule, usesIn}
+use Rattle.book.specs.Entries.{Bytes, entryOf, isNode, isRule, nameOf, usesIn}
 use Rattle.book.specs.Reading.{nodesIn, rulesIn, nodeOf, ruleOf, nodes, rules, tableOf, accepted, reading}
 use Rattle.book.specs.Reading as read
 use Rattle.book.specs.Keeps.{Head, Linked, Kept, Along, over, on, Keeps}
 use Rattle.book.specs.Writing.{bytes, headEntry, nodeEntry, ruleEntry, many, after, entryFor, bookOf, Yielded}
-use Rattle.book.proofs.Tests.{node-no-rule}
+use Rattle.book.proofs.Tests.{node-no-rule, node-uses}
 use Rattle.book.proofs.Among.{among-not, filter-in, filter-out, collect-in, collect-out}
 use Rattle.book.proofs.Stands.{nodeIn, ruleIn}
 use Rattle.book.proofs.Kept.{node-iff, earlier-iff, rule-among}
 use Rattle.book.proofs.Accepts.{keeps-accepted, head-no-rule}
-use Rattle.book.proofs.Sound.{node-uses, uses-arg, accepted-sound}
+use Rattle.book.proofs.Sound.{accepted-sound}
 use Rattle.book.proofs.Written.{entry-of, length-bytes, listed, listed-none, listed-more, length-listed, ups, ones, first-up, among-ups, among-ones, operand-place, Which, which}
 
 module _ (t : Table) (z : Sound t) where
@@ -275,10 +276,10 @@ module _ (t : Table) (z : Sound t) where
         own = λ u q i k p. apart q (which ruleNumber j q (rw (l .rules-in) at (rule-among s (ups (suc (n + j))) q i k))) p;
       }
     where
-      apart : (q : ℕ) → Which ruleNumber j q → ¬ (entryOf s q .arg ≡ ruleAt t j .name)
+      apart : (q : ℕ) → Which ruleNumber j q → ¬ (nameOf (entryOf s q) ≡ ruleAt t j .name)
       apart q w p =
           other (w .at) j (w .small) h
-          (sym (ap (λ (x : Entry). x .arg) (ent-rule (w .at) (omega (arith, w .small)))) ∙ ap (λ (x : ℕ). entryOf s x .arg) (sym (w .is)) ∙ p)
+          (sym (ap nameOf (ent-rule (w .at) (omega (arith, w .small)))) ∙ ap (λ (x : ℕ). nameOf (entryOf s x)) (sym (w .is)) ∙ p)
 
   -- ---- the chain: 1, 2, 3, ..
   node-kept : (k : ℕ) → k < n → Kept s (ups (suc k)) (suc k) (entryOf s (suc k))

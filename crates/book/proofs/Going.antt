@@ -1,5 +1,5 @@
 -- The loop along the chain: what holds at each record of it. Assumes nothing.
-use mathlib.Core.Path.{_≡_, refl, sym, _∙_}
+use mathlib.Core.Path.{_≡_, refl, sym, ap, subst, _∙_}
 use mathlib.Core.Bool.{Bool, true, false}
 use mathlib.Core.List.{List, [], _∷_, _++_}
 use Prim.Native.Nat.{ℕ, zero, suc, _+_, _*_, _≤_, _<_}
@@ -11,17 +11,20 @@ use lib.ListN.{length, getD, set, length-set}
 use lib.Seq.{getD-set-same}
 use Rattle.lists.specs.Choice.{pick}
 use Rattle.lists.specs.Sequence.{among}
+use Rattle.builder.specs.Adding.{largestName}
 use Rattle.book.specs.declared.Entry.{Entry}
 use Rattle.book.specs.declared.Walk.{Walk}
+use Rattle.book.specs.declared.Step.{Step}
 use Rattle.book.specs.declared.Reading.{Reading}
-use Rattle.book.specs.Entries.{entryOf, isNode}
-use Rattle.book.specs.Steps.{seenAt, entered, nodeAdded, ruleAdded, added, walkFault, begun, ended}
+use Rattle.book.specs.Entries.{entryOf, isNode, nameOf}
+use Rattle.book.specs.Steps.{seenAt, entered, nodeAdded, ruleAdded, added, walkFault, stepped, begun, ended}
 use Rattle.book.specs.Reading.{refused, rows, fault, headFault, finished, along, reading}
 use Rattle.book.specs.Keeps.{Linked}
 use Rattle.lists.proofs.Rows.{no-row}
 use Rattle.book.proofs.Tests.{Sized, HeadClear, head-clear, head-kind}
 use Rattle.book.proofs.Among.{not-among}
-use Rattle.book.proofs.Stands.{Stands, fault-same, added-stands, new-seen, next-is, begun-stands, ended-same}
+use Rattle.book.proofs.Kept.{next-is}
+use Rattle.book.proofs.Stands.{Stands, fault-same, added-stands, new-seen, begun-stands, ended-same}
 
 -- how many records are not passed
 unfoldable pub unseen : List ℕ → ℕ
@@ -76,8 +79,8 @@ module _ {s : List ℕ} {f : ℕ} {before : List ℕ} {w : Walk} {r : ℕ} (a : 
   new : among r before ≡ false
   new = not-among r before (a .next .new z)
 
-  pub fault-is : walkFault (length s) (entered w r) (entryOf s r) ≡ fault s before r
-  fault-is = fault-same (a .stands) r byte new
+  pub fault-is : nameOf (entryOf s r) ≤ largestName → walkFault (length s) (entered w r) (entryOf s r) ≡ fault s before r
+  fault-is h = fault-same (a .stands) r byte new h
 
   one-less : unseen (added (entered w r) r (entryOf s r) .seen) + 1 ≡ unseen (w .seen)
   one-less = added-unseen w r (entryOf s r) (a .stands .sized) byte (new-seen (a .stands) r byte new)
@@ -100,11 +103,15 @@ pub further : {s : List ℕ} {f : ℕ} {before : List ℕ} {w : Walk} {r : ℕ} 
 unfolding fault
 further {s} {f} {before} {w} {r} a z n =
     record {
-      stands = added-stands (a .stands) r (byte a z) (new a z) (fault-is a z ∙ n);
+      stands = added-stands (a .stands) r (byte a z) (new a z) n;
       next = next-is s (before ++ (r ∷ [])) (entryOf s r) (no-row (rows s before r (entryOf s r)) refl n 0);
       enough = omega (arith, one-less a z, a .enough);
       size = a .size;
     }
+
+-- in a book of bytes no name is too large
+pub name-small : (s : List ℕ) (r : ℕ) {e : Entry} → e ≡ entryOf s r → ((i : ℕ) → getD s i 0 < 256) → nameOf e ≤ largestName
+name-small s r i b = let h : nameOf (entryOf s r) ≤ largestName = omega (arith, b (12 * r + 1)) in subst (λ (e : Entry). nameOf e ≤ largestName) (sym i) h
 
 -- ---- the loop's invariant
 pub record Going (s : List ℕ) (w : Walk) (r : ℕ) : Type 0 where
@@ -132,26 +139,31 @@ module _ {s : List ℕ} {w : Walk} {r : ℕ} (g : Going s w r) where
       go zero = refl
       go (suc f) = rw (eq-eqb r 0 z)
 
-  module _ (z : ¬ (r ≡ 0)) {v : Walk} {e : Entry} {n : ℕ} (i : v ≡ entered w r) (j : e ≡ entryOf s r) (k : n ≡ walkFault (length s) v e) where
-    found : n ≡ fault s (g .before) r
-    found = k ∙ rw (i, j) (fault-is (g .at) z)
+  -- the record r is tried; its name is small enough
+  module _ (z : ¬ (r ≡ 0)) {v : Walk} {e : Entry} {x : Step} (i : v ≡ entered w r) (j : e ≡ entryOf s r) (b : nameOf e ≤ largestName) (k : x ≡ stepped (length s) v r e) where
+    found : x .number ≡ fault s (g .before) r
+    found = ap (λ (y : Step). y .number) k ∙ rw (i, j) (fault-is (g .at) z (subst (λ (y : Entry). nameOf y ≤ largestName) j b))
 
-    pub stops : {x : Reading} → ¬ (n ≡ 0) → x ≡ refused n r → x ≡ reading s
+    pub stops : {y : Reading} → ¬ (x .number ≡ 0) → y ≡ refused (x .number) r → y ≡ reading s
     unfolding along
     stops q y = y ∙ go (g .fuel) (fuelled (g .at) z) ∙ g .same
       where
-        go : (f : ℕ) → 0 < f → refused n r ≡ along s f (g .before) r
+        go : (f : ℕ) → 0 < f → refused (x .number) r ≡ along s f (g .before) r
         go zero h = absurd (omega arith)
-        go (suc f) h = rw (ne-eqb r 0 z, ← found, ne-eqb n 0 q)
+        go (suc f) h = rw (ne-eqb r 0 z, ← found, ne-eqb (x .number) 0 q)
 
-    module _ (q : n ≡ 0) {u : Walk} (y : u ≡ added v r e) where
-      next-state : u ≡ added (entered w r) r (entryOf s r)
-      next-state = y ∙ rw (i, j)
+    module _ (q : x .number ≡ 0) where
+      next-state : x .walk ≡ added (entered w r) r (entryOf s r)
+      next-state =
+          let h : walkFault (length s) v e ≡ 0 = sym (ap (λ (y : Step). y .number) k) ∙ q in
+          let a : stepped (length s) v r e .walk ≡ added v r e = rw h in
+          let b : added v r e ≡ added (entered w r) r (entryOf s r) = rw (i, j) in
+          ap (λ (y : Step). y .walk) k ∙ a ∙ b
 
-      pub less : unseen (u .seen) < unseen (w .seen)
+      pub less : unseen (x .walk .seen) < unseen (w .seen)
       less = rw next-state (omega (arith, one-less (g .at) z))
 
-      pub turns : Going s u (e .next)
+      pub turns : Going s (x .walk) (e .next)
       unfolding along
       turns = rw (next-state, j) (go (g .fuel) (g .at) (g .same))
         where

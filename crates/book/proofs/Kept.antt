@@ -13,16 +13,15 @@ use Rattle.lists.specs.Sequence.{among}
 use Rattle.lists.proofs.Tests.{or-left, or-right, and-right, true-left, true-right, or-other, _also_}
 use Rattle.table.specs.Nodes.{delayOf, delays}
 use Rattle.book.specs.declared.Entry.{Entry}
-use Rattle.book.specs.Entries.{entryOf, usesIn, isNode, isRule, formed, badForm, badArg, badInterval}
+use Rattle.book.specs.Entries.{entryOf, usesIn, isNode, isRule, nameOf, formed, badForm, badArg, badInterval}
 use Rattle.book.specs.Reading.{nodeAt, ruleAt, nodesIn, rulesIn, nodeOf, nodes, linkFault, operandFault, countFault, delayFault, nameFault, rows}
 use Rattle.book.specs.Keeps.{Linked, Formed, NodeKind, EarlierNode, Kept}
 use Rattle.lists.proofs.Rows.{no-row}
 use Rattle.book.proofs.Tests.{neither, or-else, not-and}
-use Rattle.book.proofs.Among.{among-iff, not-among, among-filter, none-named, named-none}
-use Rattle.book.proofs.Stands.{next-is}
+use Rattle.book.proofs.Among.{among-iff, among-not, not-among, among-filter, none-named, named-none}
 
 -- ---- a record by itself
-formed-is : (e : Entry) → formed e ≡ true → Formed e
+pub formed-is : (e : Entry) → formed e ≡ true → Formed e
 formed-is e t =
     let interval : (usesIn (e .kind) .interval || (eqb (e .lo) 0 && eqb (e .hi) 0)) ≡ true = search (true-left, true-right) depth 12 in
     record {
@@ -55,6 +54,16 @@ node-iff k = (
   λ h. record { low = leb-true 1 k (true-left _ _ h); high = leb-true k 10 (true-right (leb 1 k) _ h) },
   λ n. le-leb 1 k (n .low) also le-leb k 10 (n .high),
 )
+
+-- a link without a fault
+pub next-is : (s passed : List ℕ) (e : Entry) → linkFault s passed e ≡ false → Linked s passed (e .next)
+next-is s passed e h = record {
+  inside = λ z. leb-false (length s) (12 * e .next) (or-left _ _ (right z));
+  new = λ z. among-not (e .next) passed (or-right (leb (length s) (12 * e .next)) _ (right z));
+}
+  where
+    right : ¬ (e .next ≡ 0) → (leb (length s) (12 * e .next) || among (e .next) passed) ≡ false
+    right z = and-right (not (eqb (e .next) 0)) _ h (ap not (ne-eqb (e .next) 0 z))
 
 -- ---- a record where it stands
 module _ (s before : List ℕ) where
@@ -98,7 +107,7 @@ module _ (s before : List ℕ) where
           formed = formed-is e (not-false (formed e) (no 1));
           signal = λ u. ltb-false 31 (e .arg) (and-right (eqb (e .kind) 1) _ (or-left _ _ arg) (eq-eqb (e .kind) 1 u));
           name = λ u.
-              let t = eqb-false (e .arg) 0 (and-right (isRule (e .kind)) _ (or-right (eqb (e .kind) 1 && ltb 31 (e .arg)) _ arg) (rule u)) in
+              let t = eqb-false (nameOf e) 0 (and-right (isRule (e .kind)) _ (or-right (eqb (e .kind) 1 && ltb 31 (e .arg)) _ arg) (rule u)) in
               omega arith;
           ordered = ltb-false (e .hi) (e .lo) (or-left _ _ interval);
           limited = ltb-false 4095 (e .hi) (or-right (ltb (e .hi) (e .lo)) _ interval);
@@ -111,7 +120,7 @@ module _ (s before : List ℕ) where
               leb-false 8 (length (rulesIn s before)) (and-right (isRule (e .kind)) _ (or-right (isNode (e .kind) && leb 64 (length ps)) _ count) (rule u));
           delay = λ u. ltb-false 4095 (delayOf (delays (nodes s before)) (nodeOf ps e)) (and-right (isNode (e .kind)) _ (no 6) (node u));
           own = λ u q m k p.
-              none-named (λ x. entryOf s x .arg) (e .arg) (rulesIn s before) (and-right (isRule (e .kind)) _ (no 7) (rule u)) q (rule-among q m k) p;
+              none-named (λ x. nameOf (entryOf s x)) (nameOf e) (rulesIn s before) (and-right (isRule (e .kind)) _ (no 7) (rule u)) q (rule-among q m k) p;
         }
 
     pub keeping : Kept s before r e → first (rows s before r e) ≡ 0
@@ -120,7 +129,7 @@ module _ (s before : List ℕ) where
         let form : badForm e ≡ false = ap not (is-formed e (k .formed)) in
         let arg : badArg e ≡ false =
         neither (not-and (eqb (e .kind) 1) (λ u. le-ltb 31 (e .arg) (k .signal (eqb-true (e .kind) 1 u))))
-        (not-and (isRule (e .kind)) (λ u. let t = k .name (eqb-true (e .kind) 11 u) in ne-eqb (e .arg) 0 (λ z. omega arith))) in
+        (not-and (isRule (e .kind)) (λ u. let t = k .name (eqb-true (e .kind) 11 u) in ne-eqb (nameOf e) 0 (λ z. omega arith))) in
         let interval : badInterval e ≡ false = neither (le-ltb (e .hi) (e .lo) (k .ordered)) (le-ltb 4095 (e .hi) (k .limited)) in
         let operand : operandFault ps e ≡ false =
         neither (not-and (usesIn (e .kind) .left) (λ u. ap not (earlier-iff (e .left) .1 (k .left u))))
@@ -131,7 +140,7 @@ module _ (s before : List ℕ) where
         let delay : delayFault s before e ≡ false =
         not-and (isNode (e .kind)) (λ u. le-ltb 4095 (delayOf (delays (nodes s before)) (nodeOf ps e)) (k .delay (node-iff (e .kind) .0 u))) in
         let name : nameFault s before e ≡ false =
-        not-and (isRule (e .kind)) (λ u. named-none (λ x. entryOf s x .arg) (e .arg) (rulesIn s before) λ q m.
+        not-and (isRule (e .kind)) (λ u. named-none (λ x. nameOf (entryOf s x)) (nameOf e) (rulesIn s before) λ q m.
         let a = among-rule q m in
         k .own (eqb-true (e .kind) 11 u) q (among-iff q before .0 (true-right (ruleAt s q) _ a)) (eqb-true (entryOf s q .kind) 11 (true-left _ _ a))) in
         rw (link, form, arg, interval, operand, count, delay, name)

@@ -1,30 +1,34 @@
 -- The state of the code's walk, and the records that it passed: reading by the one is reading by the other. Assumes nothing.
 use mathlib.Core.Path.{_≡_, refl, sym, ap, _∙_}
 use mathlib.Core.Bool.{Bool, true, false, _&&_, _||_, not, true≢false, or-false, or-true, and-false}
-use mathlib.Core.List.{List, [], _∷_, _++_, append-nil, append-assoc}
-use Prim.Native.Nat.{ℕ, zero, suc, _+_, _-_, _*_, _<_}
+use mathlib.Core.List.{List, [], _∷_, _++_}
+use Prim.Native.Nat.{ℕ, zero, suc, _+_, _-_, _*_, _≤_, _<_}
 use native.Mathlib.Nat.{le-of-suc-le-suc}
 use native.Mathlib.Omega.{arith}
-use borrow.Author.Tests.{leb-false, eqb-true, ne-eqb, eq-eqb, lt-ltb, le-ltb}
+use borrow.Author.Tests.{eqb-true, ne-eqb, eq-eqb, lt-ltb, le-ltb, le-leb, lt-leb, not-false}
 use lib.Dec.{ltb, leb, eqb}
-use lib.ListN.{length, getD, set, replicate, length-append, length-set}
-use Rattle.lists.specs.Choice.{pick}
-use Rattle.lists.specs.Sequence.{among, padded, chain}
-use Rattle.lists.proofs.Rows.{row-more}
-use Rattle.lists.proofs.Tests.{and-right, or-left, or-right}
-use Rattle.lists.proofs.Sequences.{getD-free, getD-padded, set-padded, chain-append}
-use Rattle.table.specs.Nodes.{noNode, noRule, delayOf, delays}
+use lib.ListN.{length, getD, set, replicate, length-set}
+use Rattle.lists.specs.Choice.{Row, pick, _if_, first}
+use Rattle.lists.specs.Sequence.{among}
+use Rattle.lists.proofs.Rows.{row-more, no-row}
+use Rattle.lists.proofs.Tests.{or-left, or-right}
+use Rattle.lists.proofs.Sequences.{length-snoc, getD-free}
+use Rattle.table.specs.Nodes.{noNode, opOf, usesOf, delayOf, delays}
 use Rattle.table.specs.declared.Node.{Node}
 use Rattle.table.specs.declared.Rule.{Rule}
-use Rattle.table.proofs.Delays.{delays-chain}
+use Rattle.table.specs.declared.Table.{Table}
+use Rattle.builder.specs.Adding.{badSignal, badOperand, tooLong, addNodeRows, largestName, badName, nameUsed, addRuleRows, withNode, withRule}
+use Rattle.builder.specs.Built.{tableHolding}
+use Rattle.builder.proofs.Holding.{delay-held, name-held, node-held, rule-held}
 use Rattle.book.specs.declared.Entry.{Entry}
 use Rattle.book.specs.declared.Walk.{Walk}
-use Rattle.book.specs.Entries.{entryOf, badLength, badHead}
-use Rattle.book.specs.Steps.{seenAt, entered, nodeBy, ruleBy, nodeAdded, ruleAdded, added, badLink, badOperand, tooMany, tooLong, nameUsed, walkFault, begun, ended}
-use Rattle.book.specs.Reading.{index, place, nodeAt, ruleAt, nodesIn, nodeOf, ruleOf, nodes, rules, linkFault, operandFault, countFault, delayFault, nameFault, fault, headFault, finished}
-use Rattle.book.specs.Keeps.{Linked}
-use Rattle.book.proofs.Tests.{node-no-rule, is-rule, room-node, room-rule}
-use Rattle.book.proofs.Among.{among-not, eqb-suc, among-snoc, among-filter, filter-in, filter-out, collect-in, collect-out, collect-map, collect-length, index-old, index-new, name-among}
+use Rattle.book.specs.Entries.{entryOf, usesIn, nameOf, formed, badForm, badArg, badInterval, badLength, badHead}
+use Rattle.book.specs.Steps.{seenAt, entered, noPlace, placeBy, nodeBy, ruleBy, nodeAdded, ruleAdded, added, badLink, builderRows, walkFault, begun, ended}
+use Rattle.book.specs.Reading.{index, place, nodeAt, ruleAt, nodesIn, rulesIn, nodeOf, ruleOf, nodes, rules, linkFault, operandFault, countFault, delayFault, nameFault, rows, fault, headFault, finished}
+use Rattle.book.specs.Keeps.{Kept}
+use Rattle.book.proofs.Tests.{other-kind, node-no-rule, node-uses, rule-uses, row-same, row-none}
+use Rattle.book.proofs.Among.{eqb-suc, among-snoc, among-filter, filter-in, filter-out, collect-in, collect-out, collect-map, collect-length, index-old, index-new, index-lt}
+use Rattle.book.proofs.Kept.{formed-is, node-iff, kept}
 
 -- the node, and the rule, of a record
 abbrev pub nodeIn : List ℕ → List ℕ → ℕ → Node
@@ -33,19 +37,15 @@ nodeIn s before r = nodeOf (nodesIn s before) (entryOf s r)
 abbrev pub ruleIn : List ℕ → List ℕ → ℕ → Rule
 ruleIn s before r = ruleOf (nodesIn s before) (entryOf s r)
 
--- ---- free places have no delay, and change none
-chain-free : (made : List ℕ) (m : ℕ) → chain delayOf made (replicate m noNode) ≡ made ++ replicate m 0
-unfolding chain
-chain-free made zero = sym (append-nil made)
-chain-free made (suc m) = chain-free (made ++ (0 ∷ [])) m ∙ append-assoc made (0 ∷ []) (replicate m 0)
+-- the table of the records before
+abbrev tableBefore : List ℕ → List ℕ → Table
+tableBefore s before = tableHolding (nodes s before) (rules s before)
 
-delay-padded : (n : ℕ) (ns : List Node) (x : Node) → delayOf (delays (padded noNode n ns)) x ≡ delayOf (delays ns) x
-delay-padded n ns x =
-    let m = n - length ns in
-    let c = chain delayOf [] ns in
-    let e : delays (padded noNode n ns) ≡ c ++ replicate m 0 =
-    delays-chain (padded noNode n ns) ∙ chain-append delayOf [] ns (replicate m noNode) ∙ chain-free c m in
-    rw (e, delays-chain ns, getD-padded 0 c m (x .left), getD-padded 0 c m (x .right))
+-- the rows of a record from 5 on
+abbrev laterRows : List ℕ → List ℕ → Entry → List Row
+laterRows s before e =
+    (5 if badArg e) ∷ (6 if badInterval e) ∷ (7 if operandFault (nodesIn s before) e) ∷
+    (8 if countFault s before e) ∷ (9 if delayFault s before e) ∷ (10 if nameFault s before e) ∷ []
 
 -- what the walk has seen of the record k
 abbrev pub seenOf : List ℕ → List ℕ → ℕ → ℕ
@@ -54,10 +54,8 @@ seenOf s before k = pick (among k (nodesIn s before)) (2 + index (nodesIn s befo
 pub record Stands (s before : List ℕ) (w : Walk) : Type 0 where
   pub seen : (k : ℕ) → seenAt w k ≡ seenOf s before k
   pub sized : length (w .seen) ≡ 256
-  pub nodes-are : w .table .nodes ≡ padded noNode 64 (nodes s before)
-  pub rules-are : w .table .rules ≡ padded noRule 8 (rules s before)
-  pub node-count : w .table .«node_count» ≡ length (nodes s before)
-  pub rule-count : w .table .«rule_count» ≡ length (rules s before)
+  pub table-is : w .table ≡ tableBefore s before
+  pub few : length (nodes s before) ≤ 64
 
 -- a list after a store
 stored : (l : List ℕ) (i v k : ℕ) → i < length l → getD (set l i v) k 0 ≡ pick (eqb k i) v (getD l k 0)
@@ -79,10 +77,25 @@ seen-node true b i = le-ltb (2 + i) 2 (omega arith)
 seen-node false true i = refl
 seen-node false false i = refl
 
-seen-place : (a b : Bool) (i : ℕ) → pick a (2 + i) (pick b 1 0) - 2 ≡ pick a i 0
-seen-place true b i = omega arith
-seen-place false true i = refl
-seen-place false false i = refl
+seen-place : (u a b : Bool) (i : ℕ) → pick (ltb (pick a (2 + i) (pick b 1 0)) 2) (noPlace u) (pick a (2 + i) (pick b 1 0) - 2) ≡ pick a i (noPlace u)
+seen-place u true b i = rw (le-ltb (2 + i) 2 (omega arith)) (omega arith)
+seen-place u false true i = refl
+seen-place u false false i = refl
+
+-- an operand, u where it is used, by whether it is a node, a; there are n nodes
+operand-test : (u a : Bool) (n i : ℕ) → n ≤ 64 → (a ≡ true → i < n) → (u && leb n (pick a i (noPlace u))) ≡ (u && not a)
+operand-test false a n i h l = refl
+operand-test true true n i h l = lt-leb n i (l refl)
+operand-test true false n i h l = le-leb n 255 (omega arith)
+
+operand-place : (u a : Bool) (i : ℕ) → (u && not a) ≡ false → pick a i (noPlace u) ≡ pick a i 0
+operand-place u true i h = refl
+operand-place false false i h = refl
+operand-place true false i h = absurd (true≢false h)
+
+-- a name that is small enough is bad where it is 0
+name-test : (n : ℕ) → n ≤ largestName → (eqb n 0 || ltb largestName n) ≡ eqb n 0
+name-test n h = rw (le-ltb largestName n h) (or-false (eqb n 0))
 
 module _ {s before : List ℕ} {w : Walk} (t : Stands s before w) (r : ℕ) (b : r < 256) (new : among r before ≡ false) where
   abbrev e : Entry
@@ -111,62 +124,141 @@ module _ {s before : List ℕ} {w : Walk} (t : Stands s before w) (r : ℕ) (b :
       go true = sym (or-true (among k before))
       go false = seen-some (among k ps) (among k before) (index ps k) (no-node-passed k) ∙ sym (or-false (among k before))
 
-  node-entered : (k : ℕ) → ltb (seenAt (entered w r) k) 2 ≡ not (among k ps)
-  node-entered k = rw (in-entered k) (go (eqb k r) refl)
+  place-entered : (u : Bool) (k : ℕ) → placeBy (entered w r) u k ≡ pick (among k ps) (index ps k) (noPlace u)
+  place-entered u k = rw (in-entered k) (go (eqb k r) refl)
     where
-      go : (x : Bool) → eqb k r ≡ x → ltb (pick x 1 (seenOf s before k)) 2 ≡ not (among k ps)
+      go : (x : Bool) → eqb k r ≡ x
+          → pick (ltb (pick x 1 (seenOf s before k)) 2) (noPlace u) (pick x 1 (seenOf s before k) - 2) ≡ pick (among k ps) (index ps k) (noPlace u)
       go true i = let n : among k ps ≡ false = rw (eqb-true k r i) new-node in rw n
-      go false i = seen-node (among k ps) (among k before) (index ps k)
+      go false i = seen-place u (among k ps) (among k before) (index ps k)
 
-  place-entered : (k : ℕ) → seenAt (entered w r) k - 2 ≡ place ps k
-  place-entered k = rw (in-entered k) (go (eqb k r) refl)
-    where
-      go : (x : Bool) → eqb k r ≡ x → pick x 1 (seenOf s before k) - 2 ≡ place ps k
-      go true i = let n : among k ps ≡ false = rw (eqb-true k r i) new-node in rw n
-      go false i = seen-place (among k ps) (among k before) (index ps k)
+  -- ---- the counts
+  node-count : w .table .«node_count» ≡ length ps
+  node-count = ap (λ (x : Table). x .«node_count») (t .table-is) ∙ collect-length (nodeAt s) (nodeIn s) [] before
 
-  node-same : nodeBy (entered w r) e ≡ nodeIn s before r
-  node-same = rw (place-entered (e .left), place-entered (e .right))
+  rule-count : w .table .«rule_count» ≡ length (rulesIn s before)
+  rule-count = ap (λ (x : Table). x .«rule_count») (t .table-is) ∙ collect-length (ruleAt s) (ruleIn s) [] before
 
-  rule-same : ruleBy (entered w r) e ≡ ruleIn s before r
-  rule-same = rw (place-entered (e .left))
+  operand-same : (u : Bool) (k : ℕ) → (u && leb (w .table .«node_count») (placeBy (entered w r) u k)) ≡ (u && not (among k ps))
+  operand-same u k =
+      rw (node-count, place-entered u k)
+      (operand-test u (among k ps) (length ps) (index ps k) (omega (arith, t .few, collect-length (nodeAt s) (nodeIn s) [] before)) (index-lt ps k))
+
+  operand-in : (u : Bool) (k : ℕ) → (u && not (among k ps)) ≡ false → placeBy (entered w r) u k ≡ place ps k
+  operand-in u k h = place-entered u k ∙ operand-place u (among k ps) (index ps k) h
 
   -- ---- each test is the same
   pub link-same : badLink (length s) (entered w r) e ≡ linkFault s (before ++ (r ∷ [])) e
   link-same = rw (some-entered (e .next))
 
-  operand-same : badOperand (entered w r) e ≡ operandFault ps e
-  operand-same = rw (node-entered (e .left), node-entered (e .right))
+  module _ (n : nodeAt s r ≡ true) where
+    used : usesOf (opOf (e .kind)) ≡ usesIn (e .kind)
+    used = node-uses (e .kind) (node-iff (e .kind) .0 n .high)
 
-  count-same : tooMany (entered w r) e ≡ countFault s before e
-  count-same =
-      rw (t .node-count, t .rule-count, collect-length (nodeAt s) (nodeIn s) [] before, collect-length (ruleAt s) (ruleIn s) [] before)
+    no-rule : ruleAt s r ≡ false
+    no-rule = node-no-rule (e .kind) n
 
-  delay-same : tooLong (entered w r) e ≡ delayFault s before e
-  delay-same = ap (λ (d : ℕ). nodeAt s r && ltb 4095 d) (ap (λ (x : Node). delayOf (delays (w .table .nodes)) x) node-same ∙ over)
+    node-same : operandFault ps e ≡ false → nodeBy (entered w r) e ≡ nodeIn s before r
+    node-same h =
+        rw (
+          used,
+          operand-in (usesIn (e .kind) .left) (e .left) (or-left _ _ h),
+          operand-in (usesIn (e .kind) .right) (e .right) (or-right (usesIn (e .kind) .left && not (among (e .left) ps)) _ h),
+        )
+
+    signal-same : badSignal (nodeBy (entered w r) e) ≡ badArg e
+    signal-same = rw no-rule (sym (or-false _))
+
+    operands-same : badOperand (w .table) (nodeBy (entered w r) e) ≡ operandFault ps e
+    operands-same = rw (used, operand-same (usesIn (e .kind) .left) (e .left), operand-same (usesIn (e .kind) .right) (e .right))
+
+    node-room-same : leb 64 (w .table .«node_count») ≡ countFault s before e
+    node-room-same = rw (n, no-rule, node-count) (sym (or-false _))
+
+    delay-same : operandFault ps e ≡ false → tooLong (w .table) (nodeBy (entered w r) e) ≡ delayFault s before e
+    delay-same h =
+        ap (λ (d : ℕ). ltb 4095 d)
+        (ap (λ (x : Node). delayOf (delays (w .table .nodes)) x) (node-same h)
+        ∙ ap (λ (x : Table). delayOf (delays (x .nodes)) (nodeIn s before r)) (t .table-is)
+        ∙ delay-held (nodes s before) (rules s before) (nodeIn s before r))
+        ∙ rw n
+
+    node-rows : first (addNodeRows (w .table) (nodeBy (entered w r) e)) ≡ first (laterRows s before e)
+    node-rows =
+        row-same 5 (badArg e) signal-same λ a.
+        row-same 6 (badInterval e) refl λ i.
+        row-same 7 (operandFault ps e) operands-same λ o.
+        row-same 8 (countFault s before e) node-room-same λ c.
+        row-same 9 (delayFault s before e) (delay-same o) λ d.
+        rw no-rule
+
+  module _ (f : badForm e ≡ false) (n : nodeAt s r ≡ false) where
+    eleven : e .kind ≡ 11
+    eleven = let k = formed-is e (not-false (formed e) f) in other-kind (e .kind) (k .low) (k .high) n
+
+    rule-at : ruleAt s r ≡ true
+    rule-at = eq-eqb (e .kind) 11 eleven
+
+    no-interval : badInterval e ≡ false
+    no-interval =
+        let k = formed-is e (not-false (formed e) f) in
+        let u : usesIn (e .kind) .interval ≡ false = rw (rule-uses (e .kind) eleven) in
+        rw (k .lo u, k .hi u)
+
+    name-same : nameOf e ≤ largestName → badName (ruleBy (entered w r) e) ≡ badArg e
+    name-same h = name-test (nameOf e) h ∙ rw eleven
+
+    watched-same : leb (w .table .«node_count») (placeBy (entered w r) true (e .left)) ≡ operandFault ps e
+    watched-same = operand-same true (e .left) ∙ rw (rule-uses (e .kind) eleven) (sym (or-false _))
+
+    rule-room-same : leb 8 (w .table .«rule_count») ≡ countFault s before e
+    rule-room-same = rw (n, rule-at, rule-count)
+
+    used-same : nameUsed (w .table) (ruleBy (entered w r) e) ≡ nameFault s before e
+    used-same =
+        ap (λ (x : Table). nameUsed x (ruleBy (entered w r) e)) (t .table-is)
+        ∙ name-held (nodes s before) (rules s before) (ruleBy (entered w r) e)
+        ∙ ap (among (nameOf e)) (collect-map (ruleAt s) (ruleIn s) (λ (x : Rule). x .name) (λ (q : ℕ). nameOf (entryOf s q)) (λ b x. refl) [] before)
+        ∙ rw rule-at
+
+    rule-rows : nameOf e ≤ largestName → first (addRuleRows (w .table) (ruleBy (entered w r) e)) ≡ first (laterRows s before e)
+    rule-rows h =
+        row-same 5 (badArg e) (name-same h) λ a.
+        row-none 6 (badInterval e) no-interval
+        (row-same 7 (operandFault ps e) watched-same λ o.
+        row-same 8 (countFault s before e) rule-room-same λ c.
+        row-none 9 (delayFault s before e) (rw n) (row-same 10 (nameFault s before e) used-same λ u. refl))
+
+  later-same : nameOf e ≤ largestName → badForm e ≡ false → first (builderRows (entered w r) e) ≡ first (laterRows s before e)
+  later-same h f = go (nodeAt s r) refl
     where
-      x : Node
-      x = nodeIn s before r
+      go : (x : Bool) → nodeAt s r ≡ x
+          → first (pick x (addNodeRows (w .table) (nodeBy (entered w r) e)) (addRuleRows (w .table) (ruleBy (entered w r) e))) ≡ first (laterRows s before e)
+      go true n = node-rows n
+      go false n = rule-rows f n h
 
-      over : delayOf (delays (w .table .nodes)) x ≡ delayOf (delays (nodes s before)) x
-      over = ap (λ (l : List Node). delayOf (delays l) x) (t .nodes-are) ∙ delay-padded 64 (nodes s before) x
-
-  name-same : nameUsed (entered w r) e ≡ nameFault s before e
-  name-same =
-      rw (
-        t .rules-are,
-        name-among (w .table .«rule_count») (e .arg) (rules s before) (8 - length (rules s before)) (t .rule-count),
-        collect-map (ruleAt s) (ruleIn s) (λ (x : Rule). x .name) (λ (q : ℕ). entryOf s q .arg) (λ b x. refl) [] before,
-      )
-
-  pub fault-same : walkFault (length s) (entered w r) (entryOf s r) ≡ fault s before r
+  pub fault-same : nameOf e ≤ largestName → walkFault (length s) (entered w r) e ≡ fault s before r
   unfolding walkFault fault
-  fault-same = rw (link-same, operand-same, count-same, delay-same, name-same)
+  fault-same h =
+      row-same 3 (linkFault s (before ++ (r ∷ [])) e) link-same λ l.
+      row-same 4 (badForm e) refl (later-same h)
 
   -- ---- what is added
-  module _ (c : walkFault (length s) (entered w r) (entryOf s r) ≡ 0) where
+  module _ (c : fault s before r ≡ 0) where
     abbrev after : List ℕ
     after = before ++ (r ∷ [])
+
+    keeps : Kept s before r e
+    unfolding fault
+    keeps = kept s before r e c
+
+    form : badForm e ≡ false
+    unfolding fault
+    form = no-row (rows s before r e) refl c 1
+
+    operands : operandFault ps e ≡ false
+    unfolding fault
+    operands = no-row (rows s before r e) refl c 4
 
     module _ (n : nodeAt s r ≡ true) where
       nodes-in : nodesIn s after ≡ ps ++ (r ∷ [])
@@ -176,44 +268,41 @@ module _ {s before : List ℕ} {w : Walk} (t : Stands s before w) (r : ℕ) (b :
       nodes-more = collect-in (nodeAt s) (nodeIn s) before r n
 
       rules-kept : rules s after ≡ rules s before
-      rules-kept = collect-out (ruleAt s) (ruleIn s) before r (node-no-rule (entryOf s r .kind) n)
+      rules-kept = collect-out (ruleAt s) (ruleIn s) before r (no-rule n)
 
       room : length (nodes s before) < 64
-      room = omega (arith, room-node (length s) (entered w r) e c n, t .node-count)
+      room = omega (arith, keeps .node-room (node-iff (e .kind) .0 n), collect-length (nodeAt s) (nodeIn s) [] before)
 
       node-seen : (k : ℕ) → seenAt (nodeAdded (entered w r) r (entryOf s r)) k ≡ seenOf s after k
       node-seen k =
           stored (set (w .seen) r 1) r (2 + w .table .«node_count») k (simp length-set (omega (arith, t .sized)))
           ∙ rw (in-entered k, nodes-in, among-snoc k ps r, among-snoc k before r) (go (eqb k r) refl)
         where
-          count : w .table .«node_count» ≡ length ps
-          count = t .node-count ∙ collect-length (nodeAt s) (nodeIn s) [] before
-
           kept : (a : Bool) → among k ps ≡ a → pick a (2 + index ps k) (pick (among k before) 1 0) ≡ pick a (2 + index (ps ++ (r ∷ [])) k) (pick (among k before) 1 0)
           kept true i = rw (index-old ps (r ∷ []) k i)
           kept false i = refl
 
           go : (x : Bool) → eqb k r ≡ x
               → pick x (2 + w .table .«node_count») (pick x 1 (seenOf s before k)) ≡ pick (among k ps || x) (2 + index (ps ++ (r ∷ [])) k) (pick (among k before || x) 1 0)
-          go true i = rw (or-true (among k ps), eqb-true k r i, index-new ps r new-node, count)
+          go true i = rw (or-true (among k ps), eqb-true k r i, index-new ps r new-node, node-count)
           go false i = rw (or-false (among k ps), or-false (among k before)) (kept (among k ps) refl)
 
-      pub node-stands : Stands s after (nodeAdded (entered w r) r (entryOf s r))
+      node-table : withNode (w .table) (nodeBy (entered w r) e) ≡ tableBefore s after
+      node-table =
+          ap (λ (x : Table). withNode x (nodeBy (entered w r) e)) (t .table-is)
+          ∙ ap (λ (x : Node). withNode (tableBefore s before) x) (node-same n operands)
+          ∙ node-held (nodes s before) (rules s before) (nodeIn s before r) room
+          ∙ rw (nodes-more, rules-kept)
+
+      pub node-stands : Stands s after (nodeAdded (entered w r) r e)
       node-stands = record {
         seen = node-seen;
         sized = simp length-set (t .sized);
-        nodes-are =
-            rw (nodes-more, t .node-count, t .nodes-are)
-            (set-padded noNode 64 (nodes s before) (nodeBy (entered w r) (entryOf s r)) room ∙ ap (λ (x : Node). padded noNode 64 (nodes s before ++ (x ∷ []))) node-same);
-        rules-are = rw rules-kept (t .rules-are);
-        node-count = rw (nodes-more, t .node-count) (simp length-append (omega arith));
-        rule-count = rw rules-kept (t .rule-count);
+        table-is = node-table;
+        few = rw nodes-more (omega (arith, room, length-snoc (nodes s before) (nodeIn s before r) noNode));
       }
 
     module _ (n : nodeAt s r ≡ false) where
-      rule-at : ruleAt s r ≡ true
-      rule-at = eq-eqb (entryOf s r .kind) 11 (is-rule (length s) (entered w r) e c n)
-
       nodes-kept-in : nodesIn s after ≡ ps
       nodes-kept-in = filter-out (nodeAt s) before r n
 
@@ -221,10 +310,15 @@ module _ {s before : List ℕ} {w : Walk} (t : Stands s before w) (r : ℕ) (b :
       nodes-kept = collect-out (nodeAt s) (nodeIn s) before r n
 
       rules-more : rules s after ≡ rules s before ++ (ruleIn s before r ∷ [])
-      rules-more = collect-in (ruleAt s) (ruleIn s) before r rule-at
+      rules-more = collect-in (ruleAt s) (ruleIn s) before r (rule-at form n)
 
       rule-room : length (rules s before) < 8
-      rule-room = omega (arith, room-rule (length s) (entered w r) e c n, t .rule-count)
+      rule-room = omega (arith, keeps .rule-room (eleven form n), collect-length (ruleAt s) (ruleIn s) [] before)
+
+      rule-same : ruleBy (entered w r) e ≡ ruleIn s before r
+      rule-same =
+          let u : (usesIn (e .kind) .left && not (among (e .left) ps)) ≡ false = or-left _ _ operands in
+          rw (operand-in true (e .left) (rw (rule-uses (e .kind) (eleven form n)) at u))
 
       rule-seen : (k : ℕ) → seenAt (entered w r) k ≡ seenOf s after k
       rule-seen k = rw (in-entered k, nodes-kept-in, among-snoc k before r) (go (eqb k r) refl)
@@ -233,38 +327,31 @@ module _ {s before : List ℕ} {w : Walk} (t : Stands s before w) (r : ℕ) (b :
           go true i = let m : among k ps ≡ false = rw (eqb-true k r i) new-node in rw (m, or-true (among k before))
           go false i = rw (or-false (among k before))
 
-      pub rule-stands : Stands s after (ruleAdded (entered w r) (entryOf s r))
+      rule-table : withRule (w .table) (ruleBy (entered w r) e) ≡ tableBefore s after
+      rule-table =
+          ap (λ (x : Table). withRule x (ruleBy (entered w r) e)) (t .table-is)
+          ∙ ap (λ (x : Rule). withRule (tableBefore s before) x) rule-same
+          ∙ rule-held (nodes s before) (rules s before) (ruleIn s before r) rule-room
+          ∙ rw (nodes-kept, rules-more)
+
+      pub rule-stands : Stands s after (ruleAdded (entered w r) e)
       rule-stands = record {
         seen = rule-seen;
         sized = simp length-set (t .sized);
-        nodes-are = rw nodes-kept (t .nodes-are);
-        rules-are =
-            rw (rules-more, t .rule-count, t .rules-are)
-            (set-padded noRule 8 (rules s before) (ruleBy (entered w r) (entryOf s r)) rule-room ∙ ap (λ (x : Rule). padded noRule 8 (rules s before ++ (x ∷ []))) rule-same);
-        node-count = rw nodes-kept (t .node-count);
-        rule-count = rw (rules-more, t .rule-count) (simp length-append (omega arith));
+        table-is = rule-table;
+        few = rw nodes-kept (t .few);
       }
 
-    pub added-stands : Stands s after (added (entered w r) r (entryOf s r))
+    pub added-stands : Stands s after (added (entered w r) r e)
     added-stands = go (nodeAt s r) refl
       where
-        go : (x : Bool) → nodeAt s r ≡ x → Stands s after (pick x (nodeAdded (entered w r) r (entryOf s r)) (ruleAdded (entered w r) (entryOf s r)))
+        go : (x : Bool) → nodeAt s r ≡ x → Stands s after (pick x (nodeAdded (entered w r) r e) (ruleAdded (entered w r) e))
         go true n = node-stands n
         go false n = rule-stands n
 
 -- ---- the two readings
 pub ended-same : {s before : List ℕ} {w : Walk} → Stands s before w → ended w ≡ finished s before
-ended-same {s} {before} {w} t = rw (← (t .nodes-are), ← (t .rules-are), ← (t .node-count), ← (t .rule-count))
-
--- a link without a fault
-pub next-is : (s passed : List ℕ) (e : Entry) → linkFault s passed e ≡ false → Linked s passed (e .next)
-next-is s passed e h = record {
-  inside = λ z. leb-false (length s) (12 * e .next) (or-left _ _ (right z));
-  new = λ z. among-not (e .next) passed (or-right (leb (length s) (12 * e .next)) _ (right z));
-}
-  where
-    right : ¬ (e .next ≡ 0) → (leb (length s) (12 * e .next) || among (e .next) passed) ≡ false
-    right z = and-right (not (eqb (e .next) 0)) _ h (ap not (ne-eqb (e .next) 0 z))
+ended-same {s} {before} {w} t = rw (t .table-is)
 
 -- ---- the head
 begun-seen : (k : ℕ) → seenAt begun k ≡ pick (eqb k 0) 1 0
@@ -284,10 +371,8 @@ begun-stands s h =
     record {
       seen = λ k. begun-seen k ∙ rw (n, or-false (eqb k 0));
       sized = refl;
-      nodes-are = rw n;
-      rules-are = rw m;
-      node-count = rw n;
-      rule-count = rw m;
+      table-is = rw (n, m);
+      few = rw n (omega arith);
     }
 
 -- the fault that the code finds

@@ -48,6 +48,10 @@ isNode k = leb 1 k && leb k 10
 abbrev pub isRule : ℕ → Bool
 isRule k = eqb k 11
 
+-- the name of a rule's record
+abbrev pub nameOf : Entry → ℕ
+nameOf e = e .arg
+
 unfoldable pub usesIn : ℕ → Uses
 usesIn k = pick (isRule k) (uses true false true false) (usesOf (opOf k))
 
@@ -67,7 +71,7 @@ badForm e = not (formed e)
 
 -- 5: a signal above 31, or a name of 0
 abbrev pub badArg : Entry → Bool
-badArg e = (eqb (e .kind) 1 && ltb 31 (e .arg)) || (isRule (e .kind) && eqb (e .arg) 0)
+badArg e = (eqb (e .kind) 1 && ltb 31 (e .arg)) || (isRule (e .kind) && eqb (nameOf e) 0)
 
 -- 6: lo above hi, or hi above 4,095
 abbrev pub badInterval : Entry → Bool

@@ -7,7 +7,7 @@ use mathlib.Core.List.{List, [], _∷_, _++_, List·Memᴰ}
 use lib.ListN.{length}
 use Rattle.table.specs.Nodes.{delayOf, delays}
 use Rattle.book.specs.declared.Entry.{Entry}
-use Rattle.book.specs.Entries.{entryOf, usesIn}
+use Rattle.book.specs.Entries.{entryOf, usesIn, nameOf}
 use Rattle.book.specs.Reading.{nodesIn, rulesIn, nodeOf, nodes}
 
 -- 1: 1 to 255 records of 12 bytes
@@ -63,7 +63,7 @@ pub record Kept (s before : List ℕ) (r : ℕ) (e : Entry) : Type 0 where
   pub formed : Formed e
   -- 5
   pub signal : e .kind ≡ 1 → e .arg ≤ 31
-  pub name : e .kind ≡ 11 → 1 ≤ e .arg
+  pub name : e .kind ≡ 11 → 1 ≤ nameOf e
   -- 6
   pub ordered : e .lo ≤ e .hi
   pub limited : e .hi ≤ 4095
@@ -76,7 +76,7 @@ pub record Kept (s before : List ℕ) (r : ℕ) (e : Entry) : Type 0 where
   -- 9
   pub delay : NodeKind (e .kind) → delayOf (delays (nodes s before)) (nodeOf (nodesIn s before) e) ≤ 4095
   -- 10: no earlier rule has the name
-  pub own : e .kind ≡ 11 → (q : ℕ) → List·Memᴰ q before → entryOf s q .kind ≡ 11 → ¬ (entryOf s q .arg ≡ e .arg)
+  pub own : e .kind ≡ 11 → (q : ℕ) → List·Memᴰ q before → entryOf s q .kind ≡ 11 → ¬ (nameOf (entryOf s q) ≡ nameOf e)
 
 -- from the record r on, the chain goes along the records of the list, to its end, and each keeps the rules
 pub data Along (s : List ℕ) : List ℕ → ℕ → List ℕ → Type 0 where

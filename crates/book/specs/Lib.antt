@@ -1,6 +1,12 @@
+-- the records of a book, and the tests of one record by itself
 pub mod Entries
+-- what reading a book yields: the rows of refusals and the table
 pub mod Reading
+-- the rules that a book keeps, as statements
 pub mod Keeps
+-- the chain, and how far a book is read
 pub mod Chain
+-- the book of a table
 pub mod Writing
+-- the steps of the code
 pub mod Steps

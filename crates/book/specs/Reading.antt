@@ -13,7 +13,7 @@ use Rattle.table.specs.declared.Rule.{Rule}
 use Rattle.table.specs.declared.Table.{Table}
 use Rattle.book.specs.declared.Entry.{Entry}
 use Rattle.book.specs.declared.Reading.{Reading}
-use Rattle.book.specs.Entries.{entryOf, usesIn, isNode, isRule, badForm, badArg, badInterval, badLength, badHead}
+use Rattle.book.specs.Entries.{entryOf, usesIn, isNode, isRule, nameOf, badForm, badArg, badInterval, badLength, badHead}
 
 -- ---- the records that are nodes, and those that are rules
 abbrev pub filter : (ℕ → Bool) → List ℕ → List ℕ
@@ -53,7 +53,7 @@ nodeOf nodes e = record {
 }
 
 abbrev pub ruleOf : List ℕ → Entry → Rule
-ruleOf nodes e = record { name = e .arg; watched = place nodes (e .left) }
+ruleOf nodes e = record { name = nameOf e; watched = place nodes (e .left) }
 
 -- f of each record that p picks, with those before it
 abbrev pub collect : {A : Type 0} → (ℕ → Bool) → (List ℕ → ℕ → A) → List ℕ → List ℕ → List A
@@ -96,7 +96,7 @@ delayFault s before e = isNode (e .kind) && ltb 4095 (delayOf (delays (nodes s b
 
 -- 10: an earlier rule has the name
 abbrev pub nameFault : List ℕ → List ℕ → Entry → Bool
-nameFault s before e = isRule (e .kind) && among (e .arg) (map (λ q. entryOf s q .arg) (rulesIn s before))
+nameFault s before e = isRule (e .kind) && among (nameOf e) (map (λ q. nameOf (entryOf s q)) (rulesIn s before))
 
 -- the rows of document 01's table that can fit the record r, which holds e, and those that can fit the head
 abbrev pub rows : List ℕ → List ℕ → ℕ → Entry → List Row

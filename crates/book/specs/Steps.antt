@@ -1,19 +1,19 @@
 -- The steps of the code: the state of its walk along the chain, and what each function does with it.
 use Prim.Native.Nat.{ℕ, _+_, _-_, _*_}
-use mathlib.Core.Bool.{Bool, _&&_, _||_, not}
-use mathlib.Core.List.{List, [], _∷_}
+use mathlib.Core.Bool.{Bool, true, _&&_, _||_, not}
+use mathlib.Core.List.{List, [], _∷_, _++_}
 use lib.ListN.{getD, set, replicate}
 use lib.Dec.{ltb, leb, eqb}
 use Rattle.lists.specs.Choice.{Row, pick, _if_, first}
-use Rattle.lists.specs.Sequence.{every}
-use Rattle.table.specs.Nodes.{noTable, delayOf, delays}
-use Rattle.table.specs.Sound.{differs}
+use Rattle.table.specs.Nodes.{opOf, usesOf, noTable}
 use Rattle.table.specs.declared.Node.{Node}
 use Rattle.table.specs.declared.Rule.{Rule}
+use Rattle.builder.specs.Adding.{addNodeRows, addRuleRows, withNode, withRule}
 use Rattle.book.specs.declared.Entry.{Entry}
 use Rattle.book.specs.declared.Walk.{Walk}
+use Rattle.book.specs.declared.Step.{Step}
 use Rattle.book.specs.declared.Reading.{Reading}
-use Rattle.book.specs.Entries.{usesIn, isNode, isRule, badForm, badArg, badInterval}
+use Rattle.book.specs.Entries.{isNode, nameOf, badForm}
 use Rattle.book.specs.Reading.{accepted, unless}
 
 -- ---- the state of the walk: the table so far, and of each record of the book
@@ -24,6 +24,14 @@ seenAt w r = getD (w .seen) r 0
 abbrev pub entered : Walk → ℕ → Walk
 entered w r = record { table = w .table; seen = set (w .seen) r 1 }
 
+-- what stands for the place of a record that is no node: 255, which is no place, or 0 where no place is asked for
+abbrev pub noPlace : Bool → ℕ
+noPlace used = pick used 255 0
+
+-- the place of the node that the record r is
+abbrev pub placeBy : Walk → Bool → ℕ → ℕ
+placeBy w used r = pick (ltb (seenAt w r) 2) (noPlace used) (seenAt w r - 2)
+
 -- the node, and the rule, of an entry, with the places of its operands
 abbrev pub nodeBy : Walk → Entry → Node
 nodeBy w e = record {
@@ -31,67 +39,49 @@ nodeBy w e = record {
   arg = e .arg;
   lo = e .lo;
   hi = e .hi;
-  left = seenAt w (e .left) - 2;
-  right = seenAt w (e .right) - 2;
+  left = placeBy w (usesOf (opOf (e .kind)) .left) (e .left);
+  right = placeBy w (usesOf (opOf (e .kind)) .right) (e .right);
 }
 
 abbrev pub ruleBy : Walk → Entry → Rule
-ruleBy w e = record { name = e .arg; watched = seenAt w (e .left) - 2 }
+ruleBy w e = record { name = nameOf e; watched = placeBy w true (e .left) }
 
+-- the walk with the record r, which holds e, added
 abbrev pub nodeAdded : Walk → ℕ → Entry → Walk
-nodeAdded w r e = record {
-  table = record {
-    nodes = set (w .table .nodes) (w .table .«node_count») (nodeBy w e);
-    «node_count» = w .table .«node_count» + 1;
-    rules = w .table .rules;
-    «rule_count» = w .table .«rule_count»;
-  };
-  seen = set (w .seen) r (2 + w .table .«node_count»);
-}
+nodeAdded w r e = record { table = withNode (w .table) (nodeBy w e); seen = set (w .seen) r (2 + w .table .«node_count») }
 
 abbrev pub ruleAdded : Walk → Entry → Walk
-ruleAdded w e = record {
-  table = record {
-    nodes = w .table .nodes;
-    «node_count» = w .table .«node_count»;
-    rules = set (w .table .rules) (w .table .«rule_count») (ruleBy w e);
-    «rule_count» = w .table .«rule_count» + 1;
-  };
-  seen = w .seen;
-}
+ruleAdded w e = record { table = withRule (w .table) (ruleBy w e); seen = w .seen }
 
 abbrev pub added : Walk → ℕ → Entry → Walk
 added w r e = pick (isNode (e .kind)) (nodeAdded w r e) (ruleAdded w e)
 
--- ---- the tests, each true where the book is to be refused
+-- ---- the rows: 3 and 4 are about the record itself, and the others those of the builder
 -- 3: it links beyond a book of n bytes, or to a record that is passed; 0 is the end
 abbrev pub badLink : ℕ → Walk → Entry → Bool
 badLink n w e = not (eqb (e .next) 0) && (leb n (12 * e .next) || ltb 0 (seenAt w (e .next)))
 
--- 7: an operand, or what a rule watches, is no earlier node
-abbrev pub badOperand : Walk → Entry → Bool
-badOperand w e =
-    (usesIn (e .kind) .left && ltb (seenAt w (e .left)) 2) || (usesIn (e .kind) .right && ltb (seenAt w (e .right)) 2)
+abbrev pub recordRows : ℕ → Walk → Entry → List Row
+recordRows n w e = (3 if badLink n w e) ∷ (4 if badForm e) ∷ []
 
--- 8: the 65th node, or the 9th rule
-abbrev pub tooMany : Walk → Entry → Bool
-tooMany w e = (isNode (e .kind) && leb 64 (w .table .«node_count»)) || (isRule (e .kind) && leb 8 (w .table .«rule_count»))
-
--- 9: a node's delay is above 4,095
-abbrev pub tooLong : Walk → Entry → Bool
-tooLong w e = isNode (e .kind) && ltb 4095 (delayOf (delays (w .table .nodes)) (nodeBy w e))
-
--- 10: an earlier rule has the name
-abbrev pub nameUsed : Walk → Entry → Bool
-nameUsed w e = isRule (e .kind) && not (every (differs (w .table .«rule_count») (e .arg)) 0 (w .table .rules))
-
-abbrev pub walkRows : ℕ → Walk → Entry → List Row
-walkRows n w e =
-    (3 if badLink n w e) ∷ (4 if badForm e) ∷ (5 if badArg e) ∷ (6 if badInterval e) ∷
-    (7 if badOperand w e) ∷ (8 if tooMany w e) ∷ (9 if tooLong w e) ∷ (10 if nameUsed w e) ∷ []
+abbrev pub builderRows : Walk → Entry → List Row
+builderRows w e = pick (isNode (e .kind)) (addNodeRows (w .table) (nodeBy w e)) (addRuleRows (w .table) (ruleBy w e))
 
 unfoldable pub walkFault : ℕ → Walk → Entry → ℕ
-walkFault n w e = first (walkRows n w e)
+walkFault n w e = first (recordRows n w e ++ builderRows w e)
+
+-- ---- a record tried: its number and the walk w as it came, or 0 and the walk v
+abbrev pub stepBy : ℕ → Walk → Walk → Step
+stepBy number w v = record { number = number; walk = pick (eqb number 0) v w }
+
+abbrev pub nodeStep : Walk → ℕ → Entry → Step
+nodeStep w r e = stepBy (first (addNodeRows (w .table) (nodeBy w e))) w (nodeAdded w r e)
+
+abbrev pub ruleStep : Walk → Entry → Step
+ruleStep w e = stepBy (first (addRuleRows (w .table) (ruleBy w e))) w (ruleAdded w e)
+
+abbrev pub stepped : ℕ → Walk → ℕ → Entry → Step
+stepped n w r e = stepBy (walkFault n w e) w (added w r e)
 
 -- ---- the start and the end
 -- the head is passed, and nothing else

@@ -7,10 +7,10 @@ ghost use mathlib.Core.Path.{_≡_};
 ghost use Prim.Native.Nat.{_+_, _*_, _-_, _≤_, _<_};
 ghost use mathlib.Core.Bool.{true, false};
 ghost use lib.ListN.{length, getD};
-ghost use Rattle.book.specs.Entries.{joined, joinedAt, entryFrom, entryOf, usesIn, isNode, formedBy, badForm, badArg, badInterval, badLength, badHead};
+ghost use Rattle.lists.specs.Choice.{first};
+ghost use Rattle.book.specs.Entries.{joined, joinedAt, entryFrom, entryOf, usesIn, isNode, nameOf, formedBy, badForm, badLength, badHead};
 ghost use Rattle.book.specs.Reading.{refused, headFault, reading};
-ghost use Rattle.book.specs.Steps.{entered, nodeBy, nodeAdded, ruleAdded, added};
-ghost use Rattle.book.specs.Steps.{badLink, badOperand, tooMany, tooLong, nameUsed, walkFault, begun, ended};
+ghost use Rattle.book.specs.Steps.{entered, placeBy, nodeBy, ruleBy, badLink, recordRows, nodeStep, ruleStep, stepped, begun, ended};
 
 // What a record of the book holds: its kind and the record that it links to, then the fields that its kind may use, where an operand
 // is the number of a record, and a tail that is to be zero.
@@ -32,6 +32,12 @@ struct Entry {
 struct Walk {
     table: Table,
     seen: [u8; 256],
+}
+
+// A record tried where the walk stands: the number of a refusal and the walk as it came, or 0 and the walk with the record added.
+struct Step {
+    number: u8,
+    walk: Walk,
 }
 
 // The number of a refusal and the record that it is about, with a table of zeros; or 0, 0 and the table.
@@ -122,16 +128,11 @@ fn bad_form(e: Entry) -> bool
     !formed_by(uses_in(e.kind), e)
 }
 
-fn bad_arg(e: Entry) -> bool
-    ensures { λ b. ⌜ b ≡ badArg e ⌝ }
+// The name of a rule's record.
+fn name_of(e: Entry) -> u16
+    ensures { λ n. ⌜ n ≡ nameOf e ⌝ }
 {
-    ((e.kind == 1) & (31 < e.arg)) | ((e.kind == 11) & (e.arg == 0))
-}
-
-fn bad_interval(e: Entry) -> bool
-    ensures { λ b. ⌜ b ≡ badInterval e ⌝ }
-{
-    (e.hi < e.lo) | (4095 < e.hi)
+    e.arg as u16
 }
 
 fn seen_at(w: Walk, r: u8) -> u8
@@ -147,31 +148,24 @@ fn bad_link(n: usize, w: Walk, e: Entry) -> bool
     (e.next != 0) & ((n <= 12 * (e.next as usize)) | (0 < seen_at(w, e.next)))
 }
 
-fn bad_operand(w: Walk, e: Entry) -> bool
-    ensures { λ b. ⌜ b ≡ badOperand w e ⌝ }
-{
-    let u = uses_in(e.kind);
-    (u.left & (seen_at(w, e.left) < 2)) | (u.right & (seen_at(w, e.right) < 2))
-}
-
-fn too_many(w: Walk, e: Entry) -> bool
-    ensures { λ b. ⌜ b ≡ tooMany w e ⌝ }
-{
-    (is_node(e.kind) & (64 <= w.table.node_count)) | ((e.kind == 11) & (8 <= w.table.rule_count))
-}
-
-fn place_of(w: Walk, r: u8) -> u8
-    ensures { λ n. ⌜ n ≡ getD (w .seen) r 0 - 2 ⌝ }
+// The place of the node that a record is; of any other record 255, which is no place, or 0 where no place is asked for.
+fn place_of(w: Walk, used: bool, r: u8) -> u8
+    ensures { λ n. ⌜ n ≡ placeBy w used r ⌝ }
 {
     let s = seen_at(w, r);
-    if s < 2 { 0 } else { s - 2 }
+    if s < 2 {
+        lists::either(used, 255, 0)
+    } else {
+        s - 2
+    }
 }
 
 fn node_by(w: Walk, e: Entry) -> Node
     ensures { λ n. ⌜ n ≡ nodeBy w e ⌝ }
 {
-    let left = place_of(w, e.left);
-    let right = place_of(w, e.right);
+    let u = table::uses_of(e.kind);
+    let left = place_of(w, u.left, e.left);
+    let right = place_of(w, u.right, e.right);
     Node {
         kind: e.kind,
         arg: e.arg,
@@ -182,33 +176,19 @@ fn node_by(w: Walk, e: Entry) -> Node
     }
 }
 
-fn too_long(w: Walk, e: Entry) -> bool
-    ensures { λ b. ⌜ b ≡ tooLong w e ⌝ }
+fn rule_by(w: Walk, e: Entry) -> Rule
+    ensures { λ r. ⌜ r ≡ ruleBy w e ⌝ }
 {
-    let n = node_by(w, e);
-    let d = table::delay_over(w.table, n);
-    is_node(e.kind) & (4095 < d)
+    let name = name_of(e);
+    let watched = place_of(w, true, e.left);
+    Rule { name, watched }
 }
 
-fn name_used(w: Walk, e: Entry) -> bool
-    ensures { λ b. ⌜ b ≡ nameUsed w e ⌝ }
+// The rows that are about the record itself: its link and its form.
+fn record_fault(n: usize, w: Walk, e: Entry) -> u8
+    ensures { λ r. ⌜ r ≡ first (recordRows n w e) ⌝ }
 {
-    let rules = w.table.rules;
-    let own = table::is_new(rules, w.table.rule_count, e.arg as u16);
-    (e.kind == 11) & !own
-}
-
-// The first row of document 01's table that fits a record where the walk stands, or 0.
-fn walk_fault(n: usize, w: Walk, e: Entry) -> u8
-    ensures { λ r. ⌜ r ≡ walkFault n w e ⌝ }
-{
-    let f10 = lists::either(name_used(w, e), 10, 0);
-    let f9 = lists::either(too_long(w, e), 9, f10);
-    let f8 = lists::either(too_many(w, e), 8, f9);
-    let f7 = lists::either(bad_operand(w, e), 7, f8);
-    let f6 = lists::either(bad_interval(e), 6, f7);
-    let f5 = lists::either(bad_arg(e), 5, f6);
-    let f4 = lists::either(bad_form(e), 4, f5);
+    let f4 = lists::either(bad_form(e), 4, 0);
     lists::either(bad_link(n, w, e), 3, f4)
 }
 
@@ -222,41 +202,49 @@ fn enter(w: Walk, r: u8) -> Walk
     Walk { table, seen }
 }
 
-fn add_node(w: Walk, r: u8, e: Entry) -> Walk
-    requires { ⌜ w .table .«node_count» < 64 ⌝ }
-    ensures { λ v. ⌜ v ≡ nodeAdded w r e ⌝ }
+fn add_node(w: Walk, r: u8, e: Entry) -> Step
+    ensures { λ x. ⌜ x ≡ nodeStep w r e ⌝ }
 {
-    let n = node_by(w, e);
+    let at = w.table.node_count;
+    let a = builder::add_node(w.table, node_by(w, e));
+    if a.number != 0 {
+        return Step {
+            number: a.number,
+            walk: w,
+        };
+    }
     let k = r as usize;
-    let mut table = w.table;
-    let at = table.node_count;
+    let table = a.table;
     let mut seen = w.seen;
     seen[k] = (2 + at) as u8;
-    table.nodes[at] = n;
-    table.node_count = at + 1;
-    Walk { table, seen }
+    let walk = Walk { table, seen };
+    Step { number: 0, walk }
 }
 
-fn add_rule(w: Walk, e: Entry) -> Walk
-    requires { ⌜ w .table .«rule_count» < 8 ⌝ }
-    ensures { λ v. ⌜ v ≡ ruleAdded w e ⌝ }
+fn add_rule(w: Walk, e: Entry) -> Step
+    ensures { λ x. ⌜ x ≡ ruleStep w e ⌝ }
 {
-    let watched = place_of(w, e.left);
+    let a = builder::add_rule(w.table, rule_by(w, e));
+    if a.number != 0 {
+        return Step {
+            number: a.number,
+            walk: w,
+        };
+    }
+    let table = a.table;
     let seen = w.seen;
-    let mut table = w.table;
-    let at = table.rule_count;
-    table.rules[at] = Rule {
-        name: e.arg as u16,
-        watched,
-    };
-    table.rule_count = at + 1;
-    Walk { table, seen }
+    let walk = Walk { table, seen };
+    Step { number: 0, walk }
 }
 
-fn add(w: Walk, r: u8, e: Entry) -> Walk
-    requires { ⌜ (isNode (e .kind) ≡ true → w .table .«node_count» < 64) × (isNode (e .kind) ≡ false → w .table .«rule_count» < 8) ⌝ }
-    ensures { λ v. ⌜ v ≡ added w r e ⌝ }
+// The first row of document 01's table that fits a record, or 0 and the walk with the record added.
+fn try_record(n: usize, w: Walk, r: u8, e: Entry) -> Step
+    ensures { λ x. ⌜ x ≡ stepped n w r e ⌝ }
 {
+    let number = record_fault(n, w, e);
+    if number != 0 {
+        return Step { number, walk: w };
+    }
     if is_node(e.kind) {
         add_node(w, r, e)
     } else {
@@ -344,11 +332,11 @@ pub fn read(book: &[u8]) -> Reading
     while at != 0 {
         let v = enter(w, at);
         let e = entry_of(book, at);
-        let g = walk_fault(book.len(), v, e);
-        if g != 0 {
-            return refuse(g, at);
+        let x = try_record(book.len(), v, at, e);
+        if x.number != 0 {
+            return refuse(x.number, at);
         }
-        w = add(v, at, e);
+        w = x.walk;
         at = e.next;
     }
     end(w)

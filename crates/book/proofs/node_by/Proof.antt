@@ -7,4 +7,4 @@ returns : tie.Need-returns
 returns c = cc
 
 pub node-by-spec : {M : Type 1} → statement M
-node-by-spec = tie.close (tie.spec (search needs) (search needs) returns)
+node-by-spec = tie.close (tie.spec (search needs) (search needs) (search needs) returns)

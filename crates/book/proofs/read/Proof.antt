@@ -1,8 +1,11 @@
 -- The loop along the chain: its invariant is `Going`, and its measure the number of records that are not passed. Assumes nothing.
+use Prim.Native.Nat.{_≤_}
 use mathlib.Core.Path.{sym, _∙_}
-use Rattle.book.proofs.Tests.{head-clear, room-node, room-rule}
+use Rattle.builder.specs.Adding.{largestName}
+use Rattle.book.specs.Entries.{nameOf}
+use Rattle.book.proofs.Tests.{head-clear}
 use borrow.Author.Needs.{needs}
-use Rattle.book.proofs.Going.{Going, unseen, inside, begins, head-stops, ends, stops, less, turns}
+use Rattle.book.proofs.Going.{Going, unseen, inside, name-small, begins, head-stops, ends, stops, less, turns}
 use Rattle.book.proofs.read.Statement.{statement}
 use Rattle.book.proofs.read.Tie as tie
 
@@ -26,38 +29,40 @@ loop-holds c =
 entry-of-requires-2 : tie.Need-entry-of-requires-2 Inv-loop μ-loop
 entry-of-requires-2 c κs = inside (c .before .before .loop .inv .at) (c .before .loop-test .taken)
 
+-- the name of a record of bytes
+small : (c : tie.After-entry-of2 Inv-loop μ-loop) → nameOf (c .entry-of2 .result) ≤ largestName
+small c =
+    let l = c .before .before .before in
+    let k = l .before .before .before .before .before in
+    name-small (k .before .args .book .now) (l .loop .at) (c .entry-of2 .ensures) (λ i. k .shared-slice-known .given i .fits)
+
 returns-2 : tie.Need-returns-2 Inv-loop μ-loop
 returns-2 c =
-    let f = c .before .before in
-    let e = f .before in
+    let x = c .before .before .before in
+    let e = x .before in
     let v = e .before in
     let l = v .before in
-    stops (l .before .loop .inv) (l .loop-test .taken) (v .enter .ensures) (e .entry-of2 .ensures) (f .walk-fault .ensures) (c .before .if2 .taken) (c .refuse2 .ensures)
-
-add-requires : tie.Need-add-requires Inv-loop μ-loop
-add-requires c κs =
-    let h = sym (c .before .walk-fault .ensures) ∙ c .if2 .left in
-    (room-node _ _ _ h, room-rule _ _ _ h)
+    stops (l .before .loop .inv) (l .loop-test .taken) (v .enter .ensures) (e .entry-of2 .ensures) (small e) (x .try-record .ensures) (c .before .if2 .taken) (c .refuse2 .ensures)
 
 loop-less : tie.Need-loop-less Inv-loop μ-loop
 loop-less c =
-    let f = c .before .before in
-    let e = f .before in
+    let x = c .before .before .before in
+    let e = x .before in
     let v = e .before in
     let l = v .before in
-    less (l .before .loop .inv) (l .loop-test .taken) (v .enter .ensures) (e .entry-of2 .ensures) (f .walk-fault .ensures) (c .before .if2 .left) (c .add .ensures)
+    less (l .before .loop .inv) (l .loop-test .taken) (v .enter .ensures) (e .entry-of2 .ensures) (small e) (x .try-record .ensures) (c .before .if2 .left)
 
 loop-again : tie.Need-loop-again Inv-loop μ-loop
 loop-again c =
-    let f = c .before .before in
-    let e = f .before in
+    let x = c .before .before .before in
+    let e = x .before in
     let v = e .before in
     let l = v .before in
-    turns (l .before .loop .inv) (l .loop-test .taken) (v .enter .ensures) (e .entry-of2 .ensures) (f .walk-fault .ensures) (c .before .if2 .left) (c .add .ensures)
+    turns (l .before .loop .inv) (l .loop-test .taken) (v .enter .ensures) (e .entry-of2 .ensures) (small e) (x .try-record .ensures) (c .before .if2 .left)
 
 returns-3 : tie.Need-returns-3 Inv-loop μ-loop
 returns-3 c = ends (c .before .before .loop .inv) (c .before .loop-test .left) (c .end .ensures)
 
 pub read-spec : {M : Type 1} → statement M
 read-spec =
-    tie.close (tie.spec Inv-loop μ-loop (search needs) (search needs) returns entry-of-requires (search needs) loop-holds (search needs) entry-of-requires-2 (search needs) (search needs) returns-2 add-requires loop-less loop-again (search needs) returns-3)
+    tie.close (tie.spec Inv-loop μ-loop (search needs) (search needs) returns entry-of-requires (search needs) loop-holds (search needs) entry-of-requires-2 (search needs) (search needs) returns-2 loop-less loop-again (search needs) returns-3)

@@ -1,7 +1,7 @@
--- What the callees ensure, put together. Assumes nothing.
+-- What the callee ensures. Assumes nothing.
 use borrow.Author.Needs.{needs}
-use Rattle.book.proofs.bad_operand.Statement.{statement}
-use Rattle.book.proofs.bad_operand.Tie as tie
+use Rattle.builder.proofs.bad_operand.Statement.{statement}
+use Rattle.builder.proofs.bad_operand.Tie as tie
 
 returns : tie.Need-returns
 returns c = cc

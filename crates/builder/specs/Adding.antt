@@ -1,0 +1,82 @@
+-- What adding a node or a rule to a table answers (document 01, Refusals 5 to 10): the first row that fits and the table as it came, or
+-- 0 and the table with it in the first free place.
+use Prim.Native.Nat.{ℕ, _+_}
+use mathlib.Core.Bool.{Bool, _&&_, _||_, not}
+use mathlib.Core.List.{List, [], _∷_}
+use lib.ListN.{set}
+use lib.Dec.{ltb, leb, eqb}
+use Rattle.lists.specs.Choice.{Row, pick, _if_, first}
+use Rattle.lists.specs.Sequence.{every}
+use Rattle.table.specs.Nodes.{opOf, usesOf, delayOf, delays}
+use Rattle.table.specs.Sound.{differs}
+use Rattle.table.specs.declared.Node.{Node}
+use Rattle.table.specs.declared.Rule.{Rule}
+use Rattle.table.specs.declared.Table.{Table}
+use Rattle.builder.specs.declared.Added.{Added}
+
+-- ---- the tests of a node, each true where it is to be refused
+-- 5: a signal above 31
+abbrev pub badSignal : Node → Bool
+badSignal n = eqb (n .kind) 1 && ltb 31 (n .arg)
+
+-- 6: lo above hi, or hi above 4,095
+abbrev pub badInterval : Node → Bool
+badInterval n = ltb (n .hi) (n .lo) || ltb 4095 (n .hi)
+
+-- 7: an operand that the kind uses is no place of an earlier node
+abbrev pub badOperand : Table → Node → Bool
+badOperand t n =
+    (usesOf (opOf (n .kind)) .left && leb (t .«node_count») (n .left)) || (usesOf (opOf (n .kind)) .right && leb (t .«node_count») (n .right))
+
+-- 9: the node's delay is above 4,095
+abbrev pub tooLong : Table → Node → Bool
+tooLong t n = ltb 4095 (delayOf (delays (t .nodes)) n)
+
+-- 8 is the 65th node
+abbrev pub addNodeRows : Table → Node → List Row
+addNodeRows t n =
+    (5 if badSignal n) ∷ (6 if badInterval n) ∷ (7 if badOperand t n) ∷ (8 if leb 64 (t .«node_count»)) ∷ (9 if tooLong t n) ∷ []
+
+-- ---- the tests of a rule
+abbrev pub largestName : ℕ
+largestName = 255
+
+-- 5: a name of 0, or above the largest
+abbrev pub badName : Rule → Bool
+badName r = eqb (r .name) 0 || ltb largestName (r .name)
+
+-- 10: an earlier rule has the name
+abbrev pub nameUsed : Table → Rule → Bool
+nameUsed t r = not (every (differs (t .«rule_count») (r .name)) 0 (t .rules))
+
+-- 7: what it watches is no place of a node; 8: the 9th rule
+abbrev pub addRuleRows : Table → Rule → List Row
+addRuleRows t r =
+    (5 if badName r) ∷ (7 if leb (t .«node_count») (r .watched)) ∷ (8 if leb 8 (t .«rule_count»)) ∷ (10 if nameUsed t r) ∷ []
+
+-- ---- the table with one more
+abbrev pub withNode : Table → Node → Table
+withNode t n = record {
+  nodes = set (t .nodes) (t .«node_count») n;
+  «node_count» = t .«node_count» + 1;
+  rules = t .rules;
+  «rule_count» = t .«rule_count»;
+}
+
+abbrev pub withRule : Table → Rule → Table
+withRule t r = record {
+  nodes = t .nodes;
+  «node_count» = t .«node_count»;
+  rules = set (t .rules) (t .«rule_count») r;
+  «rule_count» = t .«rule_count» + 1;
+}
+
+-- ---- the answer
+abbrev pub addedBy : ℕ → Table → Table → Added
+addedBy number t longer = record { number = number; table = pick (eqb number 0) longer t }
+
+unfoldable pub addingNode : Table → Node → Added
+addingNode t n = addedBy (first (addNodeRows t n)) t (withNode t n)
+
+unfoldable pub addingRule : Table → Rule → Added
+addingRule t r = addedBy (first (addRuleRows t r)) t (withRule t r)
