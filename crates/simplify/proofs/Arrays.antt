@@ -8,6 +8,7 @@ use mathlib.Core.List.{List, [], _++_, _∷_, foldl, foldl-append}
 use lib.Dec.{ltb}
 use lib.ListN.{length, length-set, replicate, set, take}
 use lib.Seq.{length-take-le, take-append-seam, take-suc-set}
+use Rattle.lists.specs.Bits.{bit}
 use Rattle.lists.specs.Choice.{pick}
 use Rattle.lists.specs.Sequence.{padded}
 use Rattle.lists.proofs.Sequences.{length-snoc, set-padded, snoc-ind}
@@ -19,7 +20,6 @@ use Rattle.simplify.specs.declared.Outcome.the-variants.{At, Put, Stay}
 use Rattle.simplify.specs.Law.{law}
 use Rattle.simplify.specs.Passes.{applied, enter, enterAt, find, keepBy, keepOf, noBuild, nodesOf, placesOf, pushNode, pushPlace, renamed, stepOf}
 use Rattle.simplify.proofs.Chains.{AllFit, fit-fewer}
-use Rattle.simplify.proofs.Marking.{flag}
 use Rattle.simplify.proofs.Model.{Lists, appliedLists, entered, keepLists, noLists, rebuilt, stepLists, swept}
 use Rattle.simplify.proofs.Rebuilding.{Fine, all-rebuilt, fine-fewer}
 use Rattle.simplify.proofs.Result.{padded-law}
@@ -90,12 +90,12 @@ module _ (b : Build) (s : Lists) (m : Sim b s) (few : length (s .nodes) < 64) (r
   sim-kept x true = sim-place (pushNode b x) (record { nodes = s .nodes ++ (x ∷ []); places = s .places }) (sim-node b s m few x) room (length (s .nodes))
   sim-kept x false = sim-place b s m room (length (s .nodes))
 
-  sim-keep : (ms : List Bool) (x : Node) → Sim (keepBy ms b x) (keepLists ms s x)
+  sim-keep : (ms : ℕ) (x : Node) → Sim (keepBy ms b x) (keepLists ms s x)
   sim-keep ms x =
-      let e : keepBy ms b x ≡ pushPlace (pick (flag ms (length (s .places))) (pushNode b (renamed (s .places) x)) b) (length (s .nodes)) =
-      ap (λ d. keepOf b (flag ms d) x) (m .done) ∙ ap₂ (λ ps k. pushPlace (pick (flag ms (length (s .places))) (pushNode b (renamed ps x)) b) k)
+      let e : keepBy ms b x ≡ pushPlace (pick (bit ms (length (s .places))) (pushNode b (renamed (s .places) x)) b) (length (s .nodes)) =
+      ap (λ d. keepOf b (bit ms d) x) (m .done) ∙ ap₂ (λ ps k. pushPlace (pick (bit ms (length (s .places))) (pushNode b (renamed ps x)) b) k)
       (m .places) (m .count) in
-      rw e (sim-kept (renamed (s .places) x) (flag ms (length (s .places))))
+      rw e (sim-kept (renamed (s .places) x) (bit ms (length (s .places))))
 
 pub sim-rebuilt : (old : List Node) → Fine old → length old ≤ 64 → Sim (foldl stepOf noBuild old) (rebuilt old)
 sim-rebuilt = snoc-ind (λ old. Fine old → length old ≤ 64 → Sim (foldl stepOf noBuild old) (rebuilt old)) (λ f h. sim-empty)
@@ -106,7 +106,7 @@ sim-rebuilt = snoc-ind (λ old. Fine old → length old ≤ 64 → Sim (foldl st
     rw (foldl-append stepOf noBuild old (x ∷ []), foldl-append stepLists noLists old (x ∷ []))
     (sim-step (foldl stepOf noBuild old) (rebuilt old) (y g (omega arith)) (omega (arith, v .few)) (omega (arith, v .many)) x))
 
-pub sim-swept : (ms : List Bool) (ns : List Node) → AllFit ns → length ns ≤ 64 → Sim (foldl (keepBy ms) noBuild ns) (swept ms ns)
+pub sim-swept : (ms : ℕ) (ns : List Node) → AllFit ns → length ns ≤ 64 → Sim (foldl (keepBy ms) noBuild ns) (swept ms ns)
 sim-swept ms = snoc-ind (λ ns. AllFit ns → length ns ≤ 64 → Sim (foldl (keepBy ms) noBuild ns) (swept ms ns)) (λ f h. sim-empty)
     (λ ns x y f h.
     let g = fit-fewer ns x f in
@@ -120,14 +120,14 @@ pub record Counts (b : Build) (k : ℕ) : Type 0 where
   pub done : b .done ≡ k
   pub count : b .count ≤ k
 
-keep-counts : (ms : List Bool) (ns : List Node) → Counts (foldl (keepBy ms) noBuild ns) (length ns)
+keep-counts : (ms : ℕ) (ns : List Node) → Counts (foldl (keepBy ms) noBuild ns) (length ns)
 keep-counts ms = snoc-ind (λ ns. Counts (foldl (keepBy ms) noBuild ns) (length ns)) (record { done = refl; count = omega arith })
     (λ ns x y. rw (foldl-append (keepBy ms) noBuild ns (x ∷ []), length-snoc ns x x)
-    (go (foldl (keepBy ms) noBuild ns) (length ns) x (flag ms (foldl (keepBy ms) noBuild ns .done)) y))
+    (go (foldl (keepBy ms) noBuild ns) (length ns) x (bit ms (foldl (keepBy ms) noBuild ns .done)) y))
   where
     go : (b : Build) (k : ℕ) (x : Node) (t : Bool) → Counts b k → Counts (keepOf b t x) (suc k)
     go b k x true c = record { done = omega (arith, c .done); count = omega (arith, c .count) }
     go b k x false c = record { done = omega (arith, c .done); count = omega (arith, c .count) }
 
-pub counted : (ms : List Bool) (nodes : List Node) (i : ℕ) → i ≤ length nodes → {b : Build} → b ≡ foldl (keepBy ms) noBuild (take i nodes) → Counts b i
+pub counted : (ms : ℕ) (nodes : List Node) (i : ℕ) → i ≤ length nodes → {b : Build} → b ≡ foldl (keepBy ms) noBuild (take i nodes) → Counts b i
 counted ms nodes i h e = rw e (rw (length-take-le i nodes h) at (keep-counts ms (take i nodes)))

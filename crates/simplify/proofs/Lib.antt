@@ -10,7 +10,7 @@ pub mod Model
 pub mod Places
 pub mod Rebuilding
 pub mod Still
-pub mod Marking
+pub mod Watched
 pub mod Using
 pub mod Sweeping
 pub mod Free

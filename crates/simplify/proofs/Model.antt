@@ -1,17 +1,18 @@
 -- The passes over lists, of which the code's arrays hold the first places. Assumes nothing.
 use Prim.Native.Nat.{ℕ}
-use mathlib.Core.Bool.{Bool, false}
 use mathlib.Core.List.{List, [], _∷_, _++_, map, foldl}
-use lib.ListN.{length, getD, take}
+use lib.ListN.{length, take}
 use lib.Dec.{ltb}
+use Rattle.lists.specs.Bits.{bit}
 use Rattle.lists.specs.Choice.{pick}
 use Rattle.lists.specs.Sequence.{padded}
 use Rattle.table.specs.Nodes.{noNode}
 use Rattle.table.specs.declared.Node.{Node}
 use Rattle.table.specs.declared.Rule.{Rule}
 use Rattle.table.specs.declared.Table.{Table}
+use Rattle.needed.specs.Marks.{needed}
 use Rattle.simplify.specs.Law.{law}
-use Rattle.simplify.specs.Passes.{renamed, renamedRule, find, markUsed, markWatched}
+use Rattle.simplify.specs.Passes.{renamed, renamedRule, find, markWatched}
 use Rattle.simplify.specs.declared.Outcome.{Outcome}
 use Rattle.simplify.specs.declared.Outcome.the-variants.{Stay, At, Put}
 
@@ -47,13 +48,13 @@ abbrev pub rebuilt : List Node → Lists
 rebuilt ns = foldl stepLists noLists ns
 
 -- ---- the second pass
-abbrev pub keepLists : List Bool → Lists → Node → Lists
+abbrev pub keepLists : ℕ → Lists → Node → Lists
 keepLists ms s n = record {
-  nodes = pick (getD ms (length (s .places)) false) (s .nodes ++ (renamed (s .places) n ∷ [])) (s .nodes);
+  nodes = pick (bit ms (length (s .places))) (s .nodes ++ (renamed (s .places) n ∷ [])) (s .nodes);
   places = s .places ++ (length (s .nodes) ∷ []);
 }
 
-abbrev pub swept : List Bool → List Node → Lists
+abbrev pub swept : ℕ → List Node → Lists
 swept ms ns = foldl (keepLists ms) noLists ns
 
 -- ---- the table
@@ -61,7 +62,7 @@ abbrev pub simplified : Table → Table
 simplified t =
     let first : Lists = rebuilt (take (t .«node_count») (t .nodes)) in
     let rules : List Rule = map (renamedRule (first .places)) (t .rules) in
-    let second : Lists = swept (markUsed (markWatched (take (t .«rule_count») rules)) 0 (first .nodes)) (first .nodes) in
+    let second : Lists = swept (needed (markWatched (take (t .«rule_count») rules)) (first .nodes)) (first .nodes) in
     record {
       nodes = padded noNode 64 (second .nodes);
       «node_count» = length (second .nodes);

@@ -7,11 +7,13 @@ use mathlib.Core.Logic.{⊎-elim}
 use mathlib.Core.List.{List}
 use borrow.Author.Tests.{eqb-true}
 use lib.ListN.{getD, length}
+use Rattle.lists.specs.Bits.{bit}
 use Rattle.lists.proofs.Tests.{lt-or-le}
 use Rattle.mltl.specs.Mltl.{delay}
 use Rattle.table.specs.declared.Node.{Node}
 use Rattle.table.specs.Nodes.{formulaAt, formulaOf, formulas, opOf, usesOf}
 use Rattle.table.specs.Sound.{Field, NodeFits}
+use Rattle.needed.proofs.Marked.{used-left, used-right}
 use Rattle.simplify.specs.declared.Outcome.the-variants.{Stay}
 use Rattle.simplify.specs.Fits.{hasOperand, op}
 use Rattle.simplify.specs.Law.{law, nodeIn}
@@ -20,21 +22,20 @@ use Rattle.simplify.proofs.Better.{formula-agrees}
 use Rattle.simplify.proofs.Chains.{AllFit, unrolled}
 use Rattle.simplify.proofs.Fields.{law-agrees, renamed-fits}
 use Rattle.simplify.proofs.Free.{Tells, still}
-use Rattle.simplify.proofs.Marking.{flag}
 use Rattle.simplify.proofs.Model.{Lists}
 use Rattle.simplify.proofs.Rebuilding.{Good}
 use Rattle.simplify.proofs.Sweeping.{Kept}
-use Rattle.simplify.proofs.Using.{used-before, used-left, used-right}
+use Rattle.simplify.proofs.Using.{used-before}
 
-module _ (ms : List Bool) (ns : List Node) (g : Good ns) (s : Lists) (k : Kept ms ns s)
-    (closed : (i : ℕ) → i < length ns → flag ms i ≡ true → (j : ℕ) → hasOperand (nodeIn ns i) j ≡ true → flag ms j ≡ true) where
+module _ (ms : ℕ) (ns : List Node) (g : Good ns) (s : Lists) (k : Kept ms ns s)
+    (closed : (i : ℕ) → i < length ns → bit ms i ≡ true → (j : ℕ) → hasOperand (nodeIn ns i) j ≡ true → bit ms j ≡ true) where
   abbrev h : ℕ → ℕ
   h i = getD (s .places) i 0
 
   -- a marked place
   pub record Live (i : ℕ) : Type 0 where
     pub in-list : i < length ns
-    pub is-marked : flag ms i ≡ true
+    pub is-marked : bit ms i ≡ true
 
   injective : (i j : ℕ) → Live i → Live j → h i ≡ h j → i ≡ j
   injective i j a b e = ⊎-elim

@@ -1,12 +1,13 @@
 -- What is promised of a simplified table, shown of the passes over lists. Assumes nothing.
-use Prim.Native.Nat.{_+_, _-_, _<_, _≤_, ℕ}
+use Prim.Native.Nat.{_-_, _<_, _≤_, ℕ}
 use native.Mathlib.Omega.{arith}
 use mathlib.Core.Path.{_∙_, _≡_, ap, ap₂, refl, sym}
-use mathlib.Core.Bool.{Bool, false, false≢true, true}
+use mathlib.Core.Bool.{false, false≢true, true}
 use mathlib.Core.Logic.{⊎-elim}
 use mathlib.Core.List.{List, map, map-map}
 use lib.ListN.{List·getD-eq-default, List·getD-map, getD, length, length-map, replicate, take}
 use lib.Seq.{ext-getD, getD-take, length-take-le}
+use Rattle.lists.specs.Bits.{bit}
 use Rattle.lists.specs.Sequence.{padded}
 use Rattle.lists.proofs.Sequences.{chain-prefix, getD-padded, length-padded, padded-is}
 use Rattle.lists.proofs.Tests.{lt-or-le}
@@ -18,19 +19,21 @@ use Rattle.table.specs.Nodes.{formulaAt, formulaOf, noNode, noRule, ruleAt, wat
 use Rattle.table.specs.Sound.{RuleFits, Sound}
 use Rattle.table.proofs.Delays.{formula-prefix}
 use Rattle.table.proofs.Soundness.{sound-iff}
+use Rattle.needed.specs.Marks.{needed}
+use Rattle.needed.proofs.Marked.{Cause, Marked, needed-marked}
 use Rattle.simplify.specs.Fits.{Fits, copies, hasOperand, law-at, op, unused}
 use Rattle.simplify.specs.Law.{law, lawAs, nodeIn}
-use Rattle.simplify.specs.Passes.{markUsed, markWatched, renamedRule}
+use Rattle.simplify.specs.Passes.{markWatched, renamedRule}
 use Rattle.simplify.specs.Promise.{Simpler}
 use Rattle.simplify.proofs.Better.{Better}
 use Rattle.simplify.proofs.Fitting.{moves, rests}
-use Rattle.simplify.proofs.Marking.{Cause, Marked, Watched, flag, used-marked, watched-marked, watchedIn}
+use Rattle.simplify.proofs.Watched.{Watched, watched-marked, watchedIn}
 use Rattle.simplify.proofs.Model.{Lists, rebuilt, simplified, swept}
 use Rattle.simplify.proofs.Moved.{Live, formula-moved, good-moved}
 use Rattle.simplify.proofs.Rebuilding.{Fine, Good, Rebuilt, all-rebuilt}
 use Rattle.simplify.proofs.Still.{Settled, Still, rebuilt-still}
 use Rattle.simplify.proofs.Sweeping.{Kept, all-kept}
-use Rattle.simplify.proofs.Using.{before, used-renamed}
+use Rattle.simplify.proofs.Using.{used-before, used-renamed}
 use Rattle.simplify.proofs.Whole.{each-marked, kept-still}
 
 -- ---- free places behind the nodes
@@ -95,7 +98,7 @@ module _ (t : Table) (sd : Sound t) where
   abbrev active : List Rule
   active = take (t .«rule_count») rules1
 
-  abbrev seeds : List Bool
+  abbrev seeds : ℕ
   seeds = markWatched active
 
   watched-on : Watched active seeds
@@ -110,17 +113,17 @@ module _ (t : Table) (sd : Sound t) where
   watched-active : (r : ℕ) → r < t .«rule_count» → watchedIn active r ≡ h1 (ruleAt t r .watched)
   watched-active r h = ap (λ (x : Rule). x .watched) (getD-take (t .«rule_count») rules1 r noRule h ∙ rule-renamed (one .places) (inv .first) (t .rules) r)
 
-  abbrev ms : List Bool
-  ms = markUsed seeds 0 (one .nodes)
+  abbrev ms : ℕ
+  ms = needed seeds (one .nodes)
 
   few : length (one .nodes) ≤ t .«node_count»
   few = omega (arith, inv .few, length-old)
 
-  used-on : Marked seeds 0 (one .nodes) ms
-  used-on = used-marked seeds 0 (one .nodes) (omega (arith, few, watched-on .size, sd .few-nodes)) (before (one .nodes) (inv .good .fits))
+  used-on : Marked seeds (one .nodes) ms
+  used-on = needed-marked seeds (one .nodes) (omega (arith, few, sd .few-nodes))
 
-  closed : (i : ℕ) → i < length (one .nodes) → flag ms i ≡ true → (j : ℕ) → hasOperand (nodeIn (one .nodes) i) j ≡ true → flag ms j ≡ true
-  closed i h f = used-on .closed i h (let e : 0 + i ≡ i = omega arith in rw e f)
+  closed : (i : ℕ) → i < length (one .nodes) → bit ms i ≡ true → (j : ℕ) → hasOperand (nodeIn (one .nodes) i) j ≡ true → bit ms j ≡ true
+  closed i h f j u = used-on .closed i h f j (used-before (nodeIn (one .nodes) i) i j (inv .good .fits i h) u) u
 
   -- ---- the second pass
   abbrev two : Lists
@@ -153,7 +156,7 @@ module _ (t : Table) (sd : Sound t) where
       let a : h1 (ruleAt t r .watched) < length (one .nodes) = inv .inside (ruleAt t r .watched) (omega (arith, watched-before r h, length-old)) in
       record {
         in-list = a;
-        is-marked = used-on .up (h1 (ruleAt t r .watched)) (omega (arith, few, sd .few-nodes, watched-on .size))
+        is-marked = used-on .up (h1 (ruleAt t r .watched)) (omega (arith, few, sd .few-nodes))
             (rw (watched-active r h) at (watched-on .hit r (omega (arith, length-active)) (rw (watched-active r h) (omega (arith, few, sd .few-nodes)))));
       }
 
@@ -214,15 +217,14 @@ module _ (t : Table) (sd : Sound t) where
       let r = watched-on .from (o .place) (omega (arith, few, sd .few-nodes)) x in
       let b : r .0 < t .«rule_count» = omega (arith, r .1, length-active) in
       g (r .0) b (ap (λ (x : Rule). x .watched) (rule-twice (r .0)) ∙ ap h2 (sym (watched-active (r .0) b) ∙ r .2) ∙ o .becomes))
-      (λ (c : Cause 0 (one .nodes) ms (o .place)).
-      let e : 0 + c .by ≡ c .by = omega arith in
-      let k : flag ms (c .by) ≡ true = rw e at (c .is-marked) in
+      (λ (c : Cause (one .nodes) ms (o .place)).
+      let k = c .is-marked in
       let q = kp .inside (c .by) (c .in-list) k in
       let u : hasOperand (nodeIn (padded noNode 64 (two .nodes)) (h2 (c .by))) i ≡ true =
       rw (padded-node (two .nodes) (h2 (c .by)), kp .moved (c .by) (c .in-list) k)
       (rw (o .becomes) at (used-renamed (two .places) (nodeIn (one .nodes) (c .by)) (o .place) (c .used))) in
       false≢true (sym (f (h2 (c .by)) q) ∙ u))
-      (used-on .why (o .place) (omega (arith, few, sd .few-nodes, watched-on .size)) (o .is-marked))
+      (used-on .why (o .place) (omega (arith, few, sd .few-nodes)) (o .is-marked))
 
   none-fits : Fits (simplified t) → ⊥
   none-fits (law-at i h f) = moves _ _ _ f (rw (padded-node (two .nodes) i) (padded-law (two .nodes) (nodeIn (two .nodes) i) ∙ good2 .free i h))
@@ -266,7 +268,7 @@ module _ (t : Table) (sd : Sound t) where
     rules1-same : rules1 ≡ t .rules
     rules1-same = rules-same (one .places) (inv .first) h1-same
 
-    all : (i : ℕ) → i < length (one .nodes) → flag ms i ≡ true
+    all : (i : ℕ) → i < length (one .nodes) → bit ms i ≡ true
     all = each-marked (one .nodes) (inv .good .fits) active seeds ms (omega (arith, few, sd .few-nodes)) watched-on used-on λ i h f g.
         let l : i < t .«node_count» = omega (arith, few) in
         let n = ap length (st1 .nodes) in

@@ -1,8 +1,8 @@
 -- What the functions return makes the promised table. Assumes nothing.
-use Prim.Native.Nat.{_≤_}
+use Prim.Native.Nat.{_≤_, ℕ}
 use native.Mathlib.Omega.{arith}
 use mathlib.Core.Path.{_∙_, _≡_, ap, ap₂, refl, sym}
-use mathlib.Core.Bool.{Bool, false, false≢true}
+use mathlib.Core.Bool.{false, false≢true}
 use mathlib.Core.List.{List, foldl, map}
 use lib.ListN.{length, take}
 use lib.Seq.{length-take-le}
@@ -11,8 +11,9 @@ use Rattle.table.specs.declared.Rule.{Rule}
 use Rattle.table.specs.declared.Table.{Table}
 use Rattle.table.specs.Sound.{Sound, isSound}
 use Rattle.table.proofs.Soundness.{sound-iff}
+use Rattle.needed.specs.Marks.{needed}
 use Rattle.simplify.specs.declared.Build.{Build}
-use Rattle.simplify.specs.Passes.{keepBy, markUsed, markWatched, noBuild, placesOf, renamedRule, stepOf}
+use Rattle.simplify.specs.Passes.{keepBy, markWatched, noBuild, placesOf, renamedRule, stepOf}
 use Rattle.simplify.specs.Promise.{Promised}
 use Rattle.simplify.proofs.Arrays.{Sim, sim-nodes, sim-rebuilt, sim-swept}
 use Rattle.simplify.proofs.Model.{rebuilt, simplified, swept}
@@ -43,21 +44,21 @@ module _ (t : Table) (sd : Sound t) where
     pub first-done : first .done ≤ 64
     first-done = omega (arith, sim1 .done, inv .many, length-old, sd .few-nodes)
 
-    module _ (rules : List Rule) (seed marks : List Bool) (second : Build)
+    module _ (rules : List Rule) (seed marks : ℕ) (second : Build)
         (e1 : rules ≡ map (renamedRule (placesOf first)) (t .rules)) (e2 : seed ≡ markWatched (take (t .«rule_count») rules))
-        (e3 : marks ≡ markUsed seed 0 (take (first .count) (first .nodes)))
+        (e3 : marks ≡ needed seed (take (first .count) (first .nodes)))
         (e4 : second ≡ foldl (keepBy marks) noBuild (take (first .count) (first .nodes))) where
       abbrev rules1 : List Rule
       rules1 = map (renamedRule (rebuilt old .places)) (t .rules)
 
-      abbrev ms : List Bool
-      ms = markUsed (markWatched (take (t .«rule_count») rules1)) 0 (rebuilt old .nodes)
+      abbrev ms : ℕ
+      ms = needed (markWatched (take (t .«rule_count») rules1)) (rebuilt old .nodes)
 
       same-rules : rules ≡ rules1
       same-rules = e1 ∙ ap (λ ps. map (renamedRule ps) (t .rules)) (sim1 .places)
 
       same-marks : marks ≡ ms
-      same-marks = e3 ∙ ap₂ (λ s l. markUsed s 0 l) (e2 ∙ ap (λ l. markWatched (take (t .«rule_count») l)) same-rules) (sim-nodes first (rebuilt old) sim1)
+      same-marks = e3 ∙ ap₂ needed (e2 ∙ ap (λ l. markWatched (take (t .«rule_count») l)) same-rules) (sim-nodes first (rebuilt old) sim1)
 
       sim2 : Sim second (swept ms (rebuilt old .nodes))
       sim2 = rw (e4 ∙ ap₂ (λ m l. foldl (keepBy m) noBuild l) same-marks (sim-nodes first (rebuilt old) sim1))

@@ -1,31 +1,22 @@
 -- What a node uses. Assumes nothing.
 use Prim.Native.Nat.{_<_, ℕ}
-use native.Mathlib.Nat.{zero-add}
-use mathlib.Core.Path.{_≡_, refl}
+use mathlib.Core.Path.{_≡_}
 use mathlib.Core.Bool.{_&&_, true}
 use mathlib.Core.Logic.{_⊎_, inl, inr, ⊎-elim}
 use mathlib.Core.List.{List}
-use borrow.Author.Tests.{eq-eqb, eqb-true}
+use borrow.Author.Tests.{eqb-true}
 use lib.Dec.{eqb}
 use lib.ListN.{getD}
 use Rattle.lists.proofs.Tests.{or-split}
 use Rattle.table.specs.declared.Node.{Node}
 use Rattle.table.specs.Nodes.{opOf, usesOf}
 use Rattle.table.specs.Sound.{NodeFits}
+use Rattle.needed.proofs.Marked.{used-left, used-right}
 use Rattle.simplify.specs.Fits.{hasOperand}
-use Rattle.simplify.specs.Law.{nodeIn}
 use Rattle.simplify.specs.Passes.{renamed}
-use Rattle.simplify.proofs.Cases.{both, left-true, right-true}
-use Rattle.simplify.proofs.Chains.{AllFit}
-use Rattle.simplify.proofs.Marking.{Before}
+use Rattle.simplify.proofs.Cases.{both}
 
 module _ (n : Node) where
-  pub used-left : usesOf (opOf (n .kind)) .left ≡ true → hasOperand n (n .left) ≡ true
-  used-left h = left-true (usesOf (opOf (n .kind)) .left && eqb (n .left) (n .left)) _ (rw (h, eq-eqb (n .left) (n .left) refl))
-
-  pub used-right : usesOf (opOf (n .kind)) .right ≡ true → hasOperand n (n .right) ≡ true
-  used-right h = right-true (usesOf (opOf (n .kind)) .left && eqb (n .left) (n .right)) _ (rw (h, eq-eqb (n .right) (n .right) refl))
-
   used-by : (j : ℕ) → hasOperand n j ≡ true
       → ((usesOf (opOf (n .kind)) .left ≡ true) × (n .left ≡ j)) ⊎ ((usesOf (opOf (n .kind)) .right ≡ true) × (n .right ≡ j))
   used-by j h = ⊎-elim
@@ -36,9 +27,6 @@ module _ (n : Node) where
   pub used-before : (p j : ℕ) → NodeFits p n → hasOperand n j ≡ true → j < p
   used-before p j w h =
       ⊎-elim (λ x. rw (x .1) at (w .left .limited (x .0))) (λ x. rw (x .1) at (w .right .limited (x .0))) (used-by j h)
-
-pub before : (ns : List Node) → AllFit ns → Before 0 ns
-before ns f k h j u = rw zero-add (used-before (nodeIn ns k) k j (f k h) u)
 
 pub used-renamed : (ps : List ℕ) (n : Node) (j : ℕ) → hasOperand n j ≡ true → hasOperand (renamed ps n) (getD ps j 0) ≡ true
 used-renamed ps n j h = ⊎-elim

@@ -1,13 +1,15 @@
 -- The two passes of the code over its arrays: the nodes anew under the laws, then the nodes that a rule needs.
 use Prim.Native.Nat.{ℕ, suc, _+_, _<_}
-use mathlib.Core.Bool.{Bool, true, false, _&&_}
+use mathlib.Core.Bool.{Bool}
 use mathlib.Core.List.{List, [], _∷_, foldl}
 use lib.ListN.{getD, take, set, replicate}
 use lib.Dec.{ltb}
+use Rattle.lists.specs.Bits.{bit}
 use Rattle.lists.specs.Choice.{pick}
-use Rattle.table.specs.Nodes.{opOf, usesOf, noNode}
+use Rattle.table.specs.Nodes.{noNode}
 use Rattle.table.specs.declared.Node.{Node}
 use Rattle.table.specs.declared.Rule.{Rule}
+use Rattle.needed.specs.Marks.{mark}
 use Rattle.simplify.specs.Law.{nodeIn, sameNode, law}
 use Rattle.simplify.specs.declared.Build.{Build}
 use Rattle.simplify.specs.declared.Outcome.{Outcome}
@@ -67,30 +69,16 @@ applied b n (Put m) = enter b m
 abbrev pub stepOf : Build → Node → Build
 stepOf b n = let m = renamed (placesOf b) n in applied b m (law (b .nodes) m)
 
--- ---- the marks of what the rules need
-abbrev pub mark : Bool → ℕ → List Bool → List Bool
-mark on k ms = pick on (set ms k true) ms
+-- ---- the marks of what the rules watch
+abbrev pub markRule : ℕ → Rule → ℕ
+markRule ms r = mark ms (r .watched)
 
-abbrev pub markNode : List Bool → ℕ → Node → List Bool
-markNode ms i n =
-    let on = getD ms i false in
-    let u = usesOf (opOf (n .kind)) in
-    mark (on && u .right) (n .right) (mark (on && u .left) (n .left) ms)
-
--- from the last node to the first; i is the place of the first
-unfoldable pub markUsed : List Bool → ℕ → List Node → List Bool
-markUsed ms i [] = ms
-markUsed ms i (n ∷ ns) = markNode (markUsed ms (suc i) ns) i n
-
-abbrev pub markRule : List Bool → Rule → List Bool
-markRule ms r = set ms (r .watched) true
-
-abbrev pub markWatched : List Rule → List Bool
-markWatched rs = foldl markRule (replicate 64 false) rs
+abbrev pub markWatched : List Rule → ℕ
+markWatched rs = foldl markRule 0 rs
 
 -- ---- the second pass: the marked nodes, in order
 abbrev pub keepOf : Build → Bool → Node → Build
 keepOf b on n = pushPlace (pick on (pushNode b (renamed (placesOf b) n)) b) (b .count)
 
-abbrev pub keepBy : List Bool → Build → Node → Build
-keepBy ms b n = keepOf b (getD ms (b .done) false) n
+abbrev pub keepBy : ℕ → Build → Node → Build
+keepBy ms b n = keepOf b (bit ms (b .done)) n

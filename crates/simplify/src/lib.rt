@@ -3,14 +3,13 @@ use table::Node;
 use table::Rule;
 use table::Table;
 ghost use mathlib.Core.Path.{_≡_};
-ghost use mathlib.Core.Bool.{false};
 ghost use mathlib.Core.List.{map, foldl};
 ghost use Prim.Native.Nat.{_+_, _≤_, _<_};
 ghost use lib.ListN.{getD, take};
 ghost use Rattle.table.specs.Nodes.{opOf};
 ghost use Rattle.table.specs.Sound.{Sound};
 ghost use Rattle.simplify.specs.Law.{nodeIn, sameNode, constant, merged, overOne, isInside, leftStays, lawNot, lawOne, lawTwo, lawJoin, lawAs};
-ghost use Rattle.simplify.specs.Passes.{find, renamed, renamedRule, noBuild, pushNode, pushPlace, placesOf, nodesOf, enter, applied, stepOf, Space, Bounded, mark, markNode, markUsed, markWatched, keepOf, keepBy};
+ghost use Rattle.simplify.specs.Passes.{find, renamed, renamedRule, noBuild, pushNode, pushPlace, placesOf, nodesOf, enter, applied, stepOf, Space, Bounded, markRule, markWatched, keepOf, keepBy};
 ghost use Rattle.simplify.specs.Promise.{Promised};
 
 // What the laws make of a node: it stays, its value stands at a place, or another node has its value.
@@ -26,11 +25,6 @@ struct Build {
     count: usize,
     places: [u8; 64],
     done: usize,
-}
-
-// A mark for each node that is used.
-struct Marks {
-    on: [bool; 64],
 }
 
 // The simplified table and 0, or the number of a refusal and the table as it came.
@@ -304,53 +298,21 @@ fn rebuild(t: Table) -> Build
     b
 }
 
-fn mark(m: Marks, yes: bool, at: u8) -> Marks
-    ensures { λ r. ⌜ r .on ≡ mark yes at (m .on) ⌝ }
+fn mark_rule(marks: u64, r: Rule) -> u64
+    ensures { λ m. ⌜ m ≡ markRule marks r ⌝ }
 {
-    let k = at as usize;
-    let mut out = m;
-    if yes {
-        if k < 64 {
-            out.on[k] = true;
-            return out;
-        }
-    }
-    out
+    needed::mark(marks, r.watched as usize)
 }
 
-// Where the node n at place i is marked, its operands are.
-fn mark_node(m: Marks, i: usize, n: Node) -> Marks
-    requires { ⌜ i < 64 ⌝ }
-    ensures { λ r. ⌜ r .on ≡ markNode (m .on) i n ⌝ }
-{
-    let on = m.on[i];
-    let uses = table::uses_of(n.kind);
-    let half = mark(m, on & uses.left, n.left);
-    mark(half, on & uses.right, n.right)
-}
-
-// From the last node to the first, the operands of the marked.
-fn mark_used(seed: Marks, nodes: [Node; 64], count: usize) -> Marks
-    requires { ⌜ count ≤ 64 ⌝ }
-    ensures { λ r. ⌜ r .on ≡ markUsed (seed .on) 0 (take count nodes) ⌝ }
-{
-    let mut m = seed;
-    let mut i = count;
-    while 0 < i {
-        i -= 1;
-        m = mark_node(m, i, nodes[i]);
-    }
-    m
-}
-
-fn mark_watched(rules: [Rule; 8], count: usize) -> Marks
+// The marks of the nodes that the rules watch.
+fn mark_watched(rules: [Rule; 8], count: usize) -> u64
     requires { ⌜ count ≤ 8 ⌝ }
-    ensures { λ r. ⌜ r .on ≡ markWatched (take count rules) ⌝ }
+    ensures { λ r. ⌜ r ≡ markWatched (take count rules) ⌝ }
 {
-    let mut m = Marks { on: [false; 64] };
+    let mut m: u64 = 0;
     let mut i: usize = 0;
     while i < count {
-        m = mark(m, true, rules[i].watched);
+        m = mark_rule(m, rules[i]);
         i += 1;
     }
     m
@@ -368,14 +330,14 @@ fn keep(b: Build, yes: bool, n: Node) -> Build
 }
 
 // The marked nodes, in order.
-fn sweep(m: Marks, nodes: [Node; 64], count: usize) -> Build
+fn sweep(marks: u64, nodes: [Node; 64], count: usize) -> Build
     requires { ⌜ count ≤ 64 ⌝ }
-    ensures { λ r. ⌜ r ≡ foldl (keepBy (m .on)) noBuild (take count nodes) ⌝ }
+    ensures { λ r. ⌜ r ≡ foldl (keepBy marks) noBuild (take count nodes) ⌝ }
 {
     let mut b = no_build();
     let mut i: usize = 0;
     while i < count {
-        b = keep(b, m.on[i], nodes[i]);
+        b = keep(b, needed::is_marked(marks, i), nodes[i]);
         i += 1;
     }
     b
@@ -420,7 +382,7 @@ pub fn simplify(t: Table) -> Simplified
     let nodes = first.nodes;
     let old_rules = t.rules;
     let rules = renamed_rules(first, old_rules);
-    let marks = mark_used(mark_watched(rules, t.rule_count), nodes, first.count);
+    let marks = needed::needed(nodes, first.count, mark_watched(rules, t.rule_count));
     let second = sweep(marks, nodes, first.count);
     let kept = second.nodes;
     let table = Table {

@@ -1,9 +1,8 @@
 -- A loop that takes one rule after another. Assumes nothing.
 use Prim.Native.Nat.{_≤_, _-_}
-use mathlib.Core.Bool.{false}
 use mathlib.Core.Path.{_≡_, refl}
 use native.Mathlib.Omega.{arith}
-use lib.ListN.{length, replicate}
+use lib.ListN.{length}
 use Rattle.table.specs.Nodes.{noRule}
 use Rattle.lists.proofs.Sequences.{length-mapped}
 use Rattle.simplify.specs.Passes.{markRule}
@@ -13,7 +12,7 @@ use Rattle.simplify.proofs.mark_watched.Statement.{statement}
 use Rattle.simplify.proofs.mark_watched.Tie as tie
 
 abbrev Inv-loop : tie.InvT-loop
-Inv-loop count rules m₀ i₀ m i = (i ≤ count) × (length rules ≡ 8) × Folded markRule (replicate 64 false) rules (m .on) i
+Inv-loop count rules m₀ i₀ m i = (i ≤ count) × (length rules ≡ 8) × Folded markRule 0 rules m i
 
 abbrev μ-loop : tie.MeasureT-loop
 μ-loop count rules m₀ i₀ m i = count - i
@@ -23,8 +22,8 @@ loop-holds c = (omega arith, search (needs, length-mapped), refl)
 
 loop-again : tie.Need-loop-again Inv-loop μ-loop
 loop-again c =
-    let l = c .before .before .loop in
-    (omega arith, l .inv .1, folded-more markRule (replicate 64 false) _ (l .i) noRule (omega arith) (c .mark .ensures) (l .inv .2))
+    let l = c .before .before .before .loop in
+    (omega arith, l .inv .1, folded-more markRule 0 _ (l .i) noRule (omega arith) (c .mark-rule .ensures) (l .inv .2))
 
 returns : tie.Need-returns Inv-loop μ-loop
 returns c =

@@ -26,12 +26,6 @@ renamed-rules-requires c κs =
 mark-watched-requires : tie.Need-mark-watched-requires
 mark-watched-requires c κs = is-sound (c .before .before .before .before) .few-rules
 
-mark-used-requires : tie.Need-mark-used-requires
-mark-used-requires c κs =
-    let f = c .before .before .before .before in
-    let s = f .before in
-    first-count (s .before .before .args .t) (is-sound s) (f .rebuild .result) (f .rebuild .ensures)
-
 sweep-requires : tie.Need-sweep-requires
 sweep-requires c κs =
     let f = c .before .before .before .before .before in
@@ -45,8 +39,8 @@ renamed-rules-requires-2 c κs =
     let f = r .before .before .before in
     let s = f .before in
     second-done (s .before .before .args .t) (is-sound s) (f .rebuild .result) (f .rebuild .ensures)
-    (r .renamed-rules .result) (k .before .before .mark-watched .result .on) (k .before .mark-used .result .on) (k .sweep .result)
-    (r .renamed-rules .ensures) (k .before .before .mark-watched .ensures) (k .before .mark-used .ensures) (k .sweep .ensures)
+    (r .renamed-rules .result) (k .before .before .mark-watched .result) (k .before .needed .result) (k .sweep .result)
+    (r .renamed-rules .ensures) (k .before .before .mark-watched .ensures) (k .before .needed .ensures) (k .sweep .ensures)
 
 returns-2 : tie.Need-returns-2
 returns-2 c =
@@ -55,12 +49,12 @@ returns-2 c =
     let f = r .before .before .before in
     let s = f .before in
     together (s .before .before .args .t) (is-sound s) (f .rebuild .result) (f .rebuild .ensures)
-    (r .renamed-rules .result) (k .before .before .mark-watched .result .on) (k .before .mark-used .result .on) (k .sweep .result)
-    (r .renamed-rules .ensures) (k .before .before .mark-watched .ensures) (k .before .mark-used .ensures) (k .sweep .ensures)
+    (r .renamed-rules .result) (k .before .before .mark-watched .result) (k .before .needed .result) (k .sweep .result)
+    (r .renamed-rules .ensures) (k .before .before .mark-watched .ensures) (k .before .needed .ensures) (k .sweep .ensures)
     (c .renamed-rules2 .result) (c .renamed-rules2 .ensures)
 
 pub simplify-spec : {M : Type 1} → statement M
 simplify-spec =
     tie.close
-    (tie.spec (search needs) returns rebuild-requires renamed-rules-requires mark-watched-requires mark-used-requires sweep-requires
+    (tie.spec (search needs) returns rebuild-requires renamed-rules-requires mark-watched-requires (search needs) sweep-requires
     renamed-rules-requires-2 returns-2)

@@ -2,8 +2,8 @@
 use Prim.Native.Nat.{_≤_, _-_}
 use mathlib.Core.Path.{_≡_, sym, ap, _∙_}
 use native.Mathlib.Omega.{arith}
-use mathlib.Core.Bool.{false}
 use lib.ListN.{length, getD}
+use Rattle.lists.specs.Bits.{bit}
 use Rattle.table.specs.Nodes.{noNode}
 use Rattle.lists.proofs.Sequences.{length-mapped}
 use Rattle.simplify.specs.Passes.{noBuild, keepOf, keepBy}
@@ -14,10 +14,10 @@ use Rattle.simplify.proofs.sweep.Statement.{statement}
 use Rattle.simplify.proofs.sweep.Tie as tie
 
 abbrev Inv-loop : tie.InvT-loop
-Inv-loop count m nodes b₀ i₀ b i = (i ≤ count) × (length nodes ≡ 64) × Folded (keepBy (m .on)) noBuild nodes b i
+Inv-loop marks count nodes b₀ i₀ b i = (i ≤ count) × (length nodes ≡ 64) × Folded (keepBy marks) noBuild nodes b i
 
 abbrev μ-loop : tie.MeasureT-loop
-μ-loop count m nodes b₀ i₀ b i = count - i
+μ-loop marks count nodes b₀ i₀ b i = count - i
 
 loop-holds : tie.Need-loop-holds Inv-loop μ-loop
 loop-holds c = (omega arith, search (needs, length-mapped), (c .no-build .ensures))
@@ -26,18 +26,19 @@ keep-requires : tie.Need-keep-requires Inv-loop μ-loop
 keep-requires c κs =
     let l = c .before .before .before .loop in
     let a = c .before .before .before .before .before .args in
-    let k = counted (a .t1 .on) (a .t2) (l .i) (omega arith) (l .inv .2) in
+    let k = counted (a .marks) (a .t2) (l .i) (omega arith) (l .inv .2) in
     record { count = omega (arith, k .count); done = omega (arith, k .done) }
 
 loop-again : tie.Need-loop-again Inv-loop μ-loop
 loop-again c =
     let l = c .before .before .before .before .loop in
     let a = c .before .before .before .before .before .before .args in
-    let k = counted (a .t1 .on) (a .t2) (l .i) (omega arith) (l .inv .2) in (
+    let k = counted (a .marks) (a .t2) (l .i) (omega arith) (l .inv .2) in (
       omega arith,
       l .inv .1,
-      folded-more (keepBy (a .t1 .on)) noBuild (a .t2) (l .i) noNode (omega arith)
-          (c .keep .ensures ∙ ap (λ j. keepOf (l .b) (getD (a .t1 .on) j false) (getD (a .t2) (l .i) noNode)) (sym (k .done))) (l .inv .2),
+      folded-more (keepBy (a .marks)) noBuild (a .t2) (l .i) noNode (omega arith)
+          (c .keep .ensures ∙ ap (λ on. keepOf (l .b) on (getD (a .t2) (l .i) noNode)) (c .before .before .is-marked .ensures)
+          ∙ ap (λ j. keepOf (l .b) (bit (a .marks) j) (getD (a .t2) (l .i) noNode)) (sym (k .done))) (l .inv .2),
     )
 
 returns : tie.Need-returns Inv-loop μ-loop

@@ -1,0 +1,27 @@
+-- Marks of 64 places as the bits of one number: bit j is set where place j is marked. What is needed: all that is marked at first, and of
+-- each node that is needed the operands before it.
+use Prim.Native.Nat.{ℕ, suc}
+use mathlib.Core.Bool.{Bool, _&&_, _||_}
+use mathlib.Core.List.{List, [], _∷_}
+use lib.Dec.{ltb, eqb}
+use Rattle.lists.specs.Bits.{bit, number}
+use Rattle.table.specs.Nodes.{opOf, usesOf}
+use Rattle.table.specs.declared.Node.{Node}
+
+-- the marks ms with one more at place k, if that is below 64
+abbrev pub mark : ℕ → ℕ → ℕ
+mark ms k = number 64 (λ j. bit ms j || eqb k j)
+
+-- j is a place of an operand that the kind of n uses
+abbrev pub hasOperand : Node → ℕ → Bool
+hasOperand n j = (usesOf (opOf (n .kind)) .left && eqb (n .left) j) || (usesOf (opOf (n .kind)) .right && eqb (n .right) j)
+
+-- place j is needed, by the marks f at first and the nodes ns from place i on: it is marked at first, or a later node is needed and has it
+-- as an operand
+unfoldable pub isNeeded : (ℕ → Bool) → ℕ → List Node → ℕ → Bool
+isNeeded f i [] j = f j
+isNeeded f i (n ∷ ns) j = isNeeded f (suc i) ns j || (isNeeded f (suc i) ns i && (ltb j i && hasOperand n j))
+
+-- the marks of all that is needed
+unfoldable pub needed : ℕ → List Node → ℕ
+needed seed ns = number 64 (isNeeded (bit seed) 0 ns)

@@ -1,0 +1,78 @@
+// Which nodes are needed: marks of 64 places as the bits of one number.
+use table::Node;
+ghost use mathlib.Core.Path.{_≡_};
+ghost use Prim.Native.Nat.{min};
+ghost use lib.ListN.{take};
+ghost use Rattle.lists.specs.Bits.{bit};
+ghost use Rattle.needed.specs.Marks.{mark, needed};
+ghost use Rattle.needed.specs.Steps.{markOperand, markOperands, markNode};
+
+// The marks with one more at place `at`; from place 64 on there is none.
+pub fn mark(marks: u64, at: usize) -> u64
+    ensures { λ r. ⌜ r ≡ mark marks at ⌝ }
+{
+    if at < 64 {
+        return marks | 1 << at;
+    }
+    marks
+}
+
+// Whether there is a mark at place `at`.
+pub fn is_marked(marks: u64, at: usize) -> bool
+    ensures { λ r. ⌜ r ≡ bit marks at ⌝ }
+{
+    if at < 64 {
+        return (marks >> at) % 2 == 1;
+    }
+    false
+}
+
+// An operand at `at` is marked, where its node at place i uses it and stands after it.
+fn mark_operand(marks: u64, i: usize, used: bool, at: u8) -> u64
+    ensures { λ r. ⌜ r ≡ markOperand marks i used at ⌝ }
+{
+    let k = at as usize;
+    if used & (k < i) {
+        return mark(marks, k);
+    }
+    marks
+}
+
+// Both operands of the node n at place i.
+fn mark_operands(marks: u64, i: usize, n: Node) -> u64
+    ensures { λ r. ⌜ r ≡ markOperands marks i n ⌝ }
+{
+    let uses = table::uses_of(n.kind);
+    let half = mark_operand(marks, i, uses.left, n.left);
+    mark_operand(half, i, uses.right, n.right)
+}
+
+// The same, where the node is marked.
+fn mark_node(marks: u64, i: usize, n: Node) -> u64
+    ensures { λ r. ⌜ r ≡ markNode marks i n ⌝ }
+{
+    if is_marked(marks, i) {
+        return mark_operands(marks, i, n);
+    }
+    marks
+}
+
+// How many nodes there are, if `count` are asked for.
+fn at_most(count: usize) -> usize
+    ensures { λ r. ⌜ r ≡ min count 64 ⌝ }
+{
+    if count < 64 { count } else { 64 }
+}
+
+// The marks of all that is needed for the marked ones of the first `count` nodes, found from the last node to the first.
+pub fn needed(nodes: [Node; 64], count: usize, seed: u64) -> u64
+    ensures { λ r. ⌜ r ≡ needed seed (take count nodes) ⌝ }
+{
+    let mut m = seed;
+    let mut i = at_most(count);
+    while 0 < i {
+        i -= 1;
+        m = mark_node(m, i, nodes[i]);
+    }
+    m
+}
