@@ -6,7 +6,7 @@ use mathlib.Core.List.{List}
 use Prim.Native.Nat.{ℕ, zero, suc, _+_, _*_, _≤_, _<_}
 use native.Mathlib.Omega.{arith}
 use borrow.Author.Tests.{lt-ltb, le-ltb, ne-eqb}
-use lib.Dec.{ltb, eqb}
+use lib.Dec.{ltb, leb, eqb}
 use lib.ListN.{length, getD, List·getD-eq-default}
 use Rattle.lists.specs.Bits.{bit, bitAt, words, pack, packed, below}
 use Rattle.lists.specs.Choice.{pick}
@@ -22,8 +22,8 @@ use Rattle.table.specs.Sound.{fits}
 use Rattle.table.specs.declared.Node.{Node}
 use Rattle.table.specs.declared.Uses.{Uses}
 use Rattle.table.proofs.Soundness.{fits-iff}
-use Rattle.verdict.specs.Steps.{nodeColumn, Place, Computable}
-use Rattle.verdict.proofs.Windows.{until-same}
+use Rattle.verdict.specs.Steps.{registerSize, nodeColumn, Place, Computable}
+use Rattle.windows.proofs.Windows.{until-same}
 
 -- ---- columns of n bits
 pub below-past : (n : ℕ) (f : ℕ → Bool) (t : ℕ) → n ≤ t → below n f t ≡ false
@@ -143,26 +143,38 @@ module _ (x : Node) (i n : ℕ) (trace : List ℕ) (C D : List ℕ) (fa fb : For
   unfolding packed
   column-is o l r = pack-ext (words n) _ _ (λ t h. at o l r t)
 
+-- ---- kinds
+-- of F, G, U and R the last
+pub kind-last : {k : ℕ} → 7 ≤ k → k ≤ 10 → (k ≡ 7 → ⊥) → (k ≡ 8 → ⊥) → (k ≡ 9 → ⊥) → k ≡ 10
+kind-last a b x y z = omega arith
+
 -- a kind that is none of these is a constant
-pub other : (k : ℕ) → (k ≡ 1 → ⊥) → (k ≡ 4 → ⊥) → (k ≡ 5 → ⊥) → (k ≡ 6 → ⊥) → (k ≡ 7 → ⊥) → (k ≡ 8 → ⊥) → (k ≡ 9 → ⊥) → (k ≡ 10 → ⊥)
+constant : (k : ℕ) → (k ≡ 1 → ⊥) → (k ≡ 4 → ⊥) → (k ≡ 5 → ⊥) → (k ≡ 6 → ⊥) → (k ≡ 7 → ⊥) → (k ≡ 8 → ⊥) → (k ≡ 9 → ⊥) → (k ≡ 10 → ⊥)
     → (x : Node) (n : ℕ) (states c d : List ℕ) → _≡_ {A = ℕ → Bool} (filled (pick (eqb k 2) n 0)) (nodeColumn (opOf k) x n states c d)
-other zero a b e f g h i j x n states c d = refl
-other (suc zero) a b e f g h i j x n states c d = absurd (a refl)
-other (suc (suc zero)) a b e f g h i j x n states c d = refl
-other (suc (suc (suc zero))) a b e f g h i j x n states c d = refl
-other (suc (suc (suc (suc zero)))) a b e f g h i j x n states c d = absurd (b refl)
-other (suc (suc (suc (suc (suc zero))))) a b e f g h i j x n states c d = absurd (e refl)
-other (suc (suc (suc (suc (suc (suc zero)))))) a b e f g h i j x n states c d = absurd (f refl)
-other (suc (suc (suc (suc (suc (suc (suc zero))))))) a b e f g h i j x n states c d = absurd (g refl)
-other (suc (suc (suc (suc (suc (suc (suc (suc zero)))))))) a b e f g h i j x n states c d = absurd (h refl)
-other (suc (suc (suc (suc (suc (suc (suc (suc (suc zero))))))))) a b e f g h i j x n states c d = absurd (i refl)
-other (suc (suc (suc (suc (suc (suc (suc (suc (suc (suc zero)))))))))) a b e f g h i j x n states c d = absurd (j refl)
-other (suc (suc (suc (suc (suc (suc (suc (suc (suc (suc (suc k))))))))))) a b e f g h i j x n states c d =
+constant zero a b e f g h i j x n states c d = refl
+constant (suc zero) a b e f g h i j x n states c d = absurd (a refl)
+constant (suc (suc zero)) a b e f g h i j x n states c d = refl
+constant (suc (suc (suc zero))) a b e f g h i j x n states c d = refl
+constant (suc (suc (suc (suc zero)))) a b e f g h i j x n states c d = absurd (b refl)
+constant (suc (suc (suc (suc (suc zero))))) a b e f g h i j x n states c d = absurd (e refl)
+constant (suc (suc (suc (suc (suc (suc zero)))))) a b e f g h i j x n states c d = absurd (f refl)
+constant (suc (suc (suc (suc (suc (suc (suc zero))))))) a b e f g h i j x n states c d = absurd (g refl)
+constant (suc (suc (suc (suc (suc (suc (suc (suc zero)))))))) a b e f g h i j x n states c d = absurd (h refl)
+constant (suc (suc (suc (suc (suc (suc (suc (suc (suc zero))))))))) a b e f g h i j x n states c d = absurd (i refl)
+constant (suc (suc (suc (suc (suc (suc (suc (suc (suc (suc zero)))))))))) a b e f g h i j x n states c d = absurd (j refl)
+constant (suc (suc (suc (suc (suc (suc (suc (suc (suc (suc (suc k))))))))))) a b e f g h i j x n states c d =
     ap (λ (z : Bool). filled (pick z n 0)) (ne-eqb (suc (suc (suc (suc (suc (suc (suc (suc (suc (suc (suc k))))))))))) 2 (λ z. omega arith))
 
-pub place-of : {i n : ℕ} {x : Node} {xs : List ℕ} → Computable i n x xs → Place (80 * i) (words n) xs
+pub other : (k : ℕ) → (k ≡ 1 → ⊥) → (k ≡ 4 → ⊥) → (k ≡ 5 → ⊥) → (k ≡ 6 → ⊥) → (leb 7 k && leb k 10) ≡ false
+    → (x : Node) (n : ℕ) (states c d : List ℕ) → _≡_ {A = ℕ → Bool} (filled (pick (eqb k 2) n 0)) (nodeColumn (opOf k) x n states c d)
+other k a b e f h = constant k a b e f (past 7 refl) (past 8 refl) (past 9 refl) (past 10 refl)
+  where
+    past : (j : ℕ) → (leb 7 j && leb j 10) ≡ true → k ≡ j → ⊥
+    past j t q = false≢true (sym h ∙ ap (λ (i : ℕ). leb 7 i && leb i 10) q ∙ t)
+
+pub place-of : {i n : ℕ} {x : Node} {xs : List ℕ} → Computable i n x xs → Place (registerSize * i) (words n) xs
 place-of c = let i = c .place in let s = c .short in record { node = omega arith; small = omega arith; enough = c .enough }
 
 -- an operand's register lies below the node's
-pub apart : {l i : ℕ} → l < i → 80 * l + 80 ≤ 80 * i
+pub apart : {l i : ℕ} → l < i → registerSize * l + registerSize ≤ registerSize * i
 apart h = omega arith

@@ -16,7 +16,7 @@ use Rattle.table.specs.Nodes.{opOf, usesOf, noNode, formulaAt}
 use Rattle.table.specs.Sound.{fits}
 use Rattle.table.specs.declared.Node.{Node}
 use Rattle.table.proofs.Delays.{formula-at, formula-prefix}
-use Rattle.verdict.specs.Steps.{Maybe, Run, columnIn, marked, Grown, Needs}
+use Rattle.verdict.specs.Steps.{registerSize, scratchSize, Maybe, Run, columnIn, marked, Grown, Needs}
 use Rattle.verdict.proofs.Steps.{kept-register}
 use Rattle.verdict.proofs.Nodes.{fit-as, column-is}
 
@@ -29,32 +29,32 @@ pub maybe-by : {on : Bool} {b n m : ℕ} {s s′ : List ℕ} (x : Node) (trace :
     → Maybe on b (words m) (columnIn x m trace s) s s′
 maybe-by {on} {b} {s = s} {s′ = s′} x trace e r = subst (λ (w : ℕ). Maybe on b (words w) (columnIn x w trace s) s s′) e r
 
-module _ {ns : List Node} {marks : List Bool} {trace s₀ s s′ : List ℕ} (top i : ℕ) (a : i < 64) (b : i < length ns) (bound : i ≤ top) (l : 5280 ≤ length s)
+module _ {ns : List Node} {marks : List Bool} {trace s₀ s s′ : List ℕ} (top i : ℕ) (a : i < 64) (b : i < length ns) (bound : i ≤ top) (l : scratchSize ≤ length s)
     (k : length s′ ≡ length s) (small : length trace ≤ 5120) (fitting : fits i (getD ns i noNode) ≡ true) (need : Needs ns 0 top marks) (r : Run i ns marks trace s₀ s)
-    (both : Maybe (marked marks i) (80 * i) (words (length trace)) (columnIn (getD ns i noNode) (length trace) trace s) s s′) where
+    (both : Maybe (marked marks i) (registerSize * i) (words (length trace)) (columnIn (getD ns i noNode) (length trace) trace s) s s′) where
   abbrev x : Node
   x = getD ns i noNode
 
   abbrev n : ℕ
   n = length trace
 
-  -- below the node's register, and from 5,280 on, nothing changed
-  kept : (take (80 * i) s′ ≡ take (80 * i) s) × (drop 5280 s′ ≡ drop 5280 s)
+  -- below the node's register, and from the end of the registers on, nothing changed
+  kept : (take (registerSize * i) s′ ≡ take (registerSize * i) s) × (drop scratchSize s′ ≡ drop scratchSize s)
   kept =
       ⊎-elim (λ m. let p = both .step m in (p .low, p .high))
-      (λ m. let p = both .stay m in (ap (take (80 * i)) p, ap (drop 5280) p)) (true-or-false (marked marks i))
+      (λ m. let p = both .stay m in (ap (take (registerSize * i)) p, ap (drop scratchSize) p)) (true-or-false (marked marks i))
 
-  below : (j : ℕ) → j < i → marked marks j ≡ true → register (80 * j) (words n) s′ ≡ packed n (holds (formulaAt ns j) trace)
-  below j h m = kept-register (80 * i) (80 * j) (words n) s s′ (kept .0) (omega arith) (omega arith) (omega arith) ∙ r .at j h m
+  below : (j : ℕ) → j < i → marked marks j ≡ true → register (registerSize * j) (words n) s′ ≡ packed n (holds (formulaAt ns j) trace)
+  below j h m = kept-register (registerSize * i) (registerSize * j) (words n) s s′ (kept .0) (omega arith) (omega arith) (omega arith) ∙ r .at j h m
 
-  here : marked marks i ≡ true → register (80 * i) (words n) s′ ≡ packed n (holds (formulaAt ns i) trace)
+  here : marked marks i ≡ true → register (registerSize * i) (words n) s′ ≡ packed n (holds (formulaAt ns i) trace)
   here m =
       let f = fit-as (x .kind) i x refl fitting in
-      let operand : (j : ℕ) → j < i → marked marks j ≡ true → register (80 * j) (words n) s ≡ packed n (holds (formulaAt (take i ns) j) trace) =
+      let operand : (j : ℕ) → j < i → marked marks j ≡ true → register (registerSize * j) (words n) s ≡ packed n (holds (formulaAt (take i ns) j) trace) =
       λ j h e. r .at j h e ∙ ap (λ (g : Formula). packed n (holds g trace)) (sym (formula-prefix ns i j h (omega arith)))
       in
       both .step m .here
-      ∙ column-is x i n trace (register (80 * x .left) (words n) s) (register (80 * x .right) (words n) s) (formulaAt (take i ns) (x .left))
+      ∙ column-is x i n trace (register (registerSize * x .left) (words n) s) (register (registerSize * x .right) (words n) s) (formulaAt (take i ns) (x .left))
       (formulaAt (take i ns) (x .right)) refl (opOf (x .kind))
       (λ u. operand (x .left) (f .left u) (need .left i (omega arith) bound m u (f .left u)))
       (λ u. operand (x .right) (f .right u) (need .right i (omega arith) bound m u (f .right u)))
@@ -64,7 +64,7 @@ module _ {ns : List Node} {marks : List Bool} {trace s₀ s s′ : List ℕ} (to
   run-more =
       record {
         at = λ j h m.
-            ⊎-elim (λ (e : j ≡ i). subst (λ (w : ℕ). marked marks w ≡ true → register (80 * w) (words n) s′ ≡ packed n (holds (formulaAt ns w) trace)) (sym e) here m)
+            ⊎-elim (λ (e : j ≡ i). subst (λ (w : ℕ). marked marks w ≡ true → register (registerSize * w) (words n) s′ ≡ packed n (holds (formulaAt ns w) trace)) (sym e) here m)
             (λ (e : j < i). below j e m) (eq-or-lt-of-le (omega arith));
         high = kept .1 ∙ r .high;
       }

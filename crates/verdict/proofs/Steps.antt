@@ -1,24 +1,30 @@
 -- What was laid in a register is a step. Assumes nothing.
 use mathlib.Core.Path.{_≡_, refl, sym, ap, ap₂, _∙_, subst}
 use mathlib.Core.Logic.{inl}
-use mathlib.Core.Bool.{Bool}
+use mathlib.Core.Bool.{Bool, not, _&&_, _||_}
 use mathlib.Core.List.{List, _++_}
-use Prim.Native.Nat.{ℕ, _+_, _-_, _≤_, min}
+use Prim.Native.Nat.{ℕ, _+_, _-_, _*_, _≤_, min}
 use native.Mathlib.Nat.{zero-add, add-zero}
 use native.Mathlib.Omega.{arith}
 use borrow.Rule.Slice.PartMut.{putMid, midOf, take-put, drop-put}
+use lib.Dec.{ltb}
 use lib.ListN.{length, take, drop}
 use lib.Seq.{drop-drop, drop-paste, drop-at, take-take, take-append-le, length-take-le}
-use Rattle.lists.specs.Bits.{bitAt, pack}
+use Rattle.lists.specs.Bits.{bitAt, pack, below}
+use Rattle.lists.specs.Choice.{pick}
 use Rattle.lists.proofs.Columns.{length-pack, bitAt-past}
 use Rattle.column.specs.Column.{register, lay, Laid, Turned}
 use Rattle.pair.specs.Pair.{both, IntoSecond}
 use Rattle.column.proofs.Registers.{length-register, register-lay, register-apart, take-lay}
 use Rattle.column.proofs.Parts.{register-part, part-laid, part-turned, laid-length, laid-as}
 use Rattle.pair.proofs.Pairs.{part-pair}
-use Rattle.verdict.specs.Windows.{third, OfThree}
-use Rattle.verdict.specs.Steps.{Place, Operand, Step}
-use Rattle.verdict.proofs.Threes.{held}
+use Rattle.interval.specs.Parts.{badInterval}
+use Rattle.mltl.specs.Mltl.{until, opposite}
+use Rattle.windows.specs.Windows.{third, misplaced, untilOf, releaseOf, untilLater, releaseLater}
+use Rattle.windows.specs.Steps.{Three}
+use Rattle.windows.proofs.Lays.{held}
+use Rattle.windows.proofs.Results.{until-first, release-first}
+use Rattle.verdict.specs.Steps.{registerSize, leftPlace, workPlace, scratchSize, Interval, Place, Operand, Step}
 
 -- a register below what is known
 pub kept-register : (b at m : ℕ) (xs ys : List ℕ) → take b ys ≡ take b xs → at + m ≤ b → b ≤ length xs → b ≤ length ys → register at m ys ≡ register at m xs
@@ -40,7 +46,7 @@ laid-step {b} {m} {f} {xs} h r =
     record {
       here = ap (register b m) (r .is) ∙ register-lay b m f xs (omega arith);
       low = ap (take b) (r .is) ∙ take-lay b m f xs (omega arith);
-      high = ap (drop 5280) (r .is) ∙ drop-lay b m f xs 5280 (omega arith) (omega arith);
+      high = ap (drop scratchSize) (r .is) ∙ drop-lay b m f xs scratchSize (omega arith) (omega arith);
     }
 
 -- the part from the register at a to the end of that at b
@@ -67,7 +73,7 @@ one-step {b} {m} {f} {xs} ys h r =
 
 -- the part that is the register at b, in which the first words were laid
 pub packed-step : {b m : ℕ} {f : ℕ → Bool} {xs : List ℕ} (ys : List ℕ) → Place b m xs
-    → Laid 0 (min 80 (length (midOf b (b + m - b) xs))) f (midOf b (b + m - b) xs) ys → Step b m f xs (putMid b (b + m - b) xs ys)
+    → Laid 0 (min registerSize (length (midOf b (b + m - b) xs))) f (midOf b (b + m - b) xs) ys → Step b m f xs (putMid b (b + m - b) xs ys)
 packed-step {b} {m} {f} {xs} ys h r =
     let i = h .node in
     let j = h .small in
@@ -83,7 +89,7 @@ module _ {b m : ℕ} (c : List ℕ) {xs ys : List ℕ} (l : b + m ≤ length xs)
   laid-bits = held m (bitAt c) (ap (register b m) (p .is) ∙ register-lay b m (bitAt c) xs l) (λ t k. bitAt-past c t (omega arith))
 
 -- the register at a loaded into that at b, and turned there
-pub loaded : (F : ℕ → (ℕ → Bool) → ℕ → Bool) (a : ℕ) {b m : ℕ} {xs ys : List ℕ} (zs : List ℕ) → Place b m xs → a + 80 ≤ b → Laid b m (bitAt (register a m xs)) xs ys
+pub loaded : (F : ℕ → (ℕ → Bool) → ℕ → Bool) (a : ℕ) {b m : ℕ} {xs ys : List ℕ} (zs : List ℕ) → Place b m xs → a + registerSize ≤ b → Laid b m (bitAt (register a m xs)) xs ys
     → Turned (F (length (midOf b (b + m - b) ys)) (bitAt (midOf b (b + m - b) ys))) (midOf b (b + m - b) ys) zs
     → Step b m (F m (bitAt (register a m xs))) xs (putMid b (b + m - b) ys zs)
 loaded F a {b} {m} {xs} {ys} zs h l p q =
@@ -97,7 +103,7 @@ loaded F a {b} {m} {xs} {ys} zs h l p q =
     (one-step zs (place-after fits h p) (subst (λ (f : ℕ → Bool). Turned f (midOf b (b + m - b) ys) zs) (ap₂ F wide bits) q))
 
 -- the register at a loaded into that at b, and there joined with that at c
-pub paired : (g : Bool → Bool → Bool) (a c : ℕ) {b m : ℕ} {xs ys zs : List ℕ} → Place b m xs → a + 80 ≤ b → c + 80 ≤ b → Laid b m (bitAt (register a m xs)) xs ys
+pub paired : (g : Bool → Bool → Bool) (a c : ℕ) {b m : ℕ} {xs ys zs : List ℕ} → Place b m xs → a + registerSize ≤ b → c + registerSize ≤ b → Laid b m (bitAt (register a m xs)) xs ys
     → Laid b m (both g (register b m ys) (register c m ys)) ys zs → Step b m (both g (register a m xs) (register c m xs)) xs zs
 paired g a c {b} {m} {xs} {ys} {zs} h l o p q =
     let i = h .node in let j = h .small in let k = h .enough in
@@ -114,21 +120,25 @@ pub register-put : (a k m : ℕ) (xs ys : List ℕ) → a ≤ length xs → m �
 register-put a k m xs ys h l =
     ap (take m) (drop-at (take a xs) (ys ++ drop k (drop a xs)) a (length-take-le a xs h)) ∙ take-append-le m ys (drop k (drop a xs)) l
 
-module _ (G : ℕ → (ℕ → Bool) → (ℕ → Bool) → ℕ → Bool) (a c : ℕ) {b m : ℕ} {xs ys zs : List ℕ} (us : List ℕ) (h : Place b m xs) (l : a + 80 ≤ b) (o : c + 80 ≤ b)
-    (p : Laid b m (bitAt (register c m xs)) xs ys) (q : Laid 5120 m (bitAt (register a m ys)) ys zs) where
+module _ (a c : ℕ) {b m : ℕ} {xs ys zs : List ℕ} (us : List ℕ) (h : Place b m xs) (l : a + registerSize ≤ b) (o : c + registerSize ≤ b)
+    (p : Laid b m (bitAt (register c m xs)) xs ys) (q : Laid leftPlace m (bitAt (register a m ys)) ys zs)
+    (n : length us ≡ length (midOf b (workPlace + m - b) zs)) where
+  abbrev lentPart : List ℕ
+  lentPart = midOf b (workPlace + m - b) zs
+
   fits-b : b + m ≤ length xs
   fits-b = let i = h .node in let j = h .small in let k = h .enough in omega arith
 
   long-y : length ys ≡ length xs
   long-y = laid-length fits-b p
 
-  fits-w : 5120 + m ≤ length ys
+  fits-w : leftPlace + m ≤ length ys
   fits-w = let j = h .small in let k = h .enough in omega (arith, long-y)
 
   long-z : length zs ≡ length xs
   long-z = laid-length fits-w q ∙ long-y
 
-  left : bitAt (register 5120 m zs) ≡ bitAt (register a m xs)
+  left : bitAt (register leftPlace m zs) ≡ bitAt (register a m xs)
   left =
       let i = h .node in let j = h .small in let k = h .enough in
       laid-bits (register a m ys) fits-w (length-register a m ys (omega (arith, long-y))) q ∙ ap bitAt (kept-register b a m xs ys (laid-step h p .low) (omega arith) (omega arith) (omega (arith, long-y)))
@@ -136,37 +146,64 @@ module _ (G : ℕ → (ℕ → Bool) → (ℕ → Bool) → ℕ → Bool) (a c :
   right : bitAt (register b m zs) ≡ bitAt (register c m xs)
   right =
       let i = h .node in let j = h .small in let k = h .enough in
-      ap bitAt (ap (register b m) (q .is) ∙ register-apart 5120 m (bitAt (register a m ys)) ys fits-w b m (omega (arith, long-y)) (inl (omega arith)))
+      ap bitAt (ap (register b m) (q .is) ∙ register-apart leftPlace m (bitAt (register a m ys)) ys fits-w b m (omega (arith, long-y)) (inl (omega arith)))
       ∙ laid-bits (register c m xs) fits-b (length-register c m xs (omega arith)) p
 
-  pub reaching : length us ≡ length (midOf b (5200 + m - b) zs) → OfThree (λ k x y. G k (bitAt x) (bitAt y)) (5120 - b) (midOf b (5200 + m - b) zs) us
-      → Step b m (G m (bitAt (register a m xs)) (bitAt (register c m xs))) xs (putMid b (5200 + m - b) zs us)
-  reaching n r =
+  room : b + (workPlace + m - b) ≤ length zs
+  room = let i = h .node in let j = h .small in let k = h .enough in omega (arith, long-z)
+
+  wide : length lentPart ≡ workPlace + m - b
+  wide = length-register b (workPlace + m - b) zs room
+
+  three : Three (leftPlace - b) (workPlace - b) lentPart
+  three =
+      let i = h .node in let j = h .small in
+      record { low = omega (arith, wide); high = omega (arith, wide); apart = omega (arith, wide) }
+
+  reaching : (G : ℕ → (ℕ → Bool) → (ℕ → Bool) → ℕ → Bool)
+      → register 0 (third (workPlace - b) lentPart) us
+      ≡ pack (third (workPlace - b) lentPart)
+      (G (third (workPlace - b) lentPart) (bitAt (register (leftPlace - b) (third (workPlace - b) lentPart) lentPart)) (bitAt (register 0 (third (workPlace - b) lentPart) lentPart)))
+      → Step b m (G m (bitAt (register a m xs)) (bitAt (register c m xs))) xs (putMid b (workPlace + m - b) zs us)
+  reaching G r =
       let i = h .node in let j = h .small in let k = h .enough in
-      let mid : List ℕ = midOf b (5200 + m - b) zs in
-      let room : b + (5200 + m - b) ≤ length zs = omega (arith, long-z) in
-      let wide : length mid ≡ 5200 + m - b = length-register b (5200 + m - b) zs room in
-      let e : third (5120 - b) mid ≡ m = omega (arith, wide) in
-      let at : b + (5120 - b) ≡ 5120 = omega arith in
-      let d : bitAt (register (5120 - b) m mid) ≡ bitAt (register a m xs) =
-      ap bitAt (register-part b (5200 + m - b) (5120 - b) m zs room (omega arith) ∙ ap (λ (i : ℕ). register i m zs) at) ∙ left
+      let e : third (workPlace - b) lentPart ≡ m = omega (arith, wide) in
+      let at : b + (leftPlace - b) ≡ leftPlace = omega arith in
+      let d : bitAt (register (leftPlace - b) m lentPart) ≡ bitAt (register a m xs) =
+      ap bitAt (register-part b (workPlace + m - b) (leftPlace - b) m zs room (omega arith) ∙ ap (λ (i : ℕ). register i m zs) at) ∙ left
       in
-      let f : bitAt (register 0 m mid) ≡ bitAt (register c m xs) = ap bitAt (register-part b (5200 + m - b) 0 m zs room (omega arith) ∙ ap (λ (i : ℕ). register i m zs) (add-zero b)) ∙ right in
-      let r′ : register 0 m us ≡ pack m (G m (bitAt (register (5120 - b) m mid)) (bitAt (register 0 m mid))) =
-      subst (λ (w : ℕ). register 0 w us ≡ pack w (G w (bitAt (register (5120 - b) w mid)) (bitAt (register 0 w mid)))) e r
+      let f : bitAt (register 0 m lentPart) ≡ bitAt (register c m xs) =
+      ap bitAt (register-part b (workPlace + m - b) 0 m zs room (omega arith) ∙ ap (λ (i : ℕ). register i m zs) (add-zero b)) ∙ right
+      in
+      let r′ : register 0 m us ≡ pack m (G m (bitAt (register (leftPlace - b) m lentPart)) (bitAt (register 0 m lentPart))) =
+      subst (λ (w : ℕ). register 0 w us ≡ pack w (G w (bitAt (register (leftPlace - b) w lentPart)) (bitAt (register 0 w lentPart)))) e r
       in
       record {
         here =
-            register-put b (5200 + m - b) m zs us (omega (arith, long-z)) (omega (arith, n, wide)) ∙ r′
+            register-put b (workPlace + m - b) m zs us (omega (arith, long-z)) (omega (arith, n, wide)) ∙ r′
             ∙ ap₂ (λ (x y : ℕ → Bool). pack m (G m x y)) d f;
         low =
-            take-put b (5200 + m - b) zs us (omega (arith, long-z)) ∙ ap (take b) (q .is)
-            ∙ sym (take-take b 5120 (lay 5120 m (bitAt (register a m ys)) ys) (omega arith)) ∙ ap (take b) (take-lay 5120 m (bitAt (register a m ys)) ys fits-w)
-            ∙ take-take b 5120 ys (omega arith) ∙ laid-step h p .low;
+            take-put b (workPlace + m - b) zs us (omega (arith, long-z)) ∙ ap (take b) (q .is)
+            ∙ sym (take-take b leftPlace (lay leftPlace m (bitAt (register a m ys)) ys) (omega arith)) ∙ ap (take b) (take-lay leftPlace m (bitAt (register a m ys)) ys fits-w)
+            ∙ take-take b leftPlace ys (omega arith) ∙ laid-step h p .low;
         high =
-            past (putMid b (5200 + m - b) zs us) ∙ ap (drop (80 - m)) (drop-put b (5200 + m) zs us (omega arith) (omega (arith, long-z)) (n ∙ wide)) ∙ sym (past zs)
-            ∙ ap (drop 5280) (q .is) ∙ drop-lay 5120 m (bitAt (register a m ys)) ys 5280 fits-w (omega arith) ∙ laid-step h p .high;
+            past (putMid b (workPlace + m - b) zs us) ∙ ap (drop (registerSize - m)) (drop-put b (workPlace + m) zs us (omega arith) (omega (arith, long-z)) (n ∙ wide)) ∙ sym (past zs)
+            ∙ ap (drop scratchSize) (q .is) ∙ drop-lay leftPlace m (bitAt (register a m ys)) ys scratchSize fits-w (omega arith) ∙ laid-step h p .high;
       }
     where
-      past : (l : List ℕ) → drop 5280 l ≡ drop (80 - m) (drop (5200 + m) l)
-      past l = let j = h .small in let e : 5280 ≡ 5200 + m + (80 - m) = omega arith in ap (λ (i : ℕ). drop i l) e ∙ sym (drop-drop (80 - m) (5200 + m) l)
+      past : (l : List ℕ) → drop scratchSize l ≡ drop (registerSize - m) (drop (workPlace + m) l)
+      past l =
+          let j = h .small in
+          let e : scratchSize ≡ workPlace + m + (registerSize - m) = omega arith in
+          ap (λ (i : ℕ). drop i l) e ∙ sym (drop-drop (registerSize - m) (workPlace + m) l)
+
+  pub until-step : (lo hi : ℕ) → Interval lo hi
+      → us ≡ pick (badInterval lo hi || misplaced (leftPlace - b) (workPlace - b) (length lentPart)) lentPart (untilLater (leftPlace - b) (workPlace - b) lo hi lentPart)
+      → Step b m (untilOf lo hi m (register a m xs) (register c m xs)) xs (putMid b (workPlace + m - b) zs us)
+  until-step lo hi i r = reaching (λ k f g. until (64 * k) lo hi f g) (until-first (i .0) (i .1) three r)
+
+  pub release-step : (lo hi n : ℕ) → Interval lo hi
+      → us ≡ pick (badInterval lo hi || misplaced (leftPlace - b) (workPlace - b) (length lentPart)) lentPart (releaseLater (leftPlace - b) (workPlace - b) lo hi n lentPart)
+      → Step b m (releaseOf n lo hi m (register a m xs) (register c m xs)) xs (putMid b (workPlace + m - b) zs us)
+  release-step lo hi n i r =
+      reaching (λ k f g. below n (opposite (until (64 * k) lo hi (λ t. ltb t n && not (f t)) (λ t. ltb t n && not (g t))))) (release-first (i .0) (i .1) three n r)

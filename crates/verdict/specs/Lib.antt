@@ -1,3 +1,4 @@
+-- what the public functions answer, and leave in their buffers
 pub mod Verdict
-pub mod Windows
+-- the registers, and what the steps on the way leave there
 pub mod Steps

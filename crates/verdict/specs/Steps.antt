@@ -1,5 +1,4 @@
--- The registers of the nodes: node i's is the part of the scratch from 80 * i on, and two more to work in follow the 64th. What the functions that write
--- them leave there.
+-- The registers of the nodes in the scratch, and what the functions that write them leave there.
 use mathlib.Core.Path.{_≡_}
 use mathlib.Core.Bool.{Bool, true, false, _||_, _&&_}
 use mathlib.Core.List.{List}
@@ -13,25 +12,46 @@ use Rattle.signal.specs.Signal.{signalColumn}
 use Rattle.table.specs.Nodes.{Op, Unknown, Signal, Top, Bottom, Not, And, Or, Finally, Globally, Until, Release, opOf, usesOf, noNode, formulaAt}
 use Rattle.table.specs.Sound.{fits}
 use Rattle.table.specs.declared.Node.{Node}
-use Rattle.verdict.specs.Windows.{untilOf, releaseOf}
+use Rattle.windows.specs.Windows.{untilOf, releaseOf}
+
+-- ---- where they lie
+-- the words of a register: node i's begins at registerSize * i
+abbrev pub registerSize : ℕ
+registerSize = 80
+
+-- after those of 64 nodes, for U and R: the register of the left operand, and one to work in
+abbrev pub leftPlace : ℕ
+leftPlace = 64 * registerSize
+
+abbrev pub workPlace : ℕ
+workPlace = leftPlace + registerSize
+
+-- the words of all registers
+abbrev pub scratchSize : ℕ
+scratchSize = workPlace + registerSize
 
 -- a node's register at b, of which m words are used, in a scratch with room for all
 pub record Place (b m : ℕ) (xs : List ℕ) : Type 0 where
-  pub node : b ≤ 5040
-  pub small : m ≤ 80
-  pub enough : 5280 ≤ length xs
+  pub node : b + registerSize ≤ leftPlace
+  pub small : m ≤ registerSize
+  pub enough : scratchSize ≤ length xs
 
 -- the registers at a and b
 pub record Operand (a b m : ℕ) (xs : List ℕ) : Type 0 where
-  pub before : a + 80 ≤ b
-  pub small : m ≤ 80
-  pub enough : b + 80 ≤ length xs
+  pub before : a + registerSize ≤ b
+  pub small : m ≤ registerSize
+  pub enough : b + registerSize ≤ length xs
 
--- ys holds the column f in its register at b; below b, and from 5,280 on, it is xs
+-- ---- what stands in them
+-- an interval that is not refused
+abbrev pub Interval : ℕ → ℕ → Type 0
+Interval lo hi = (lo ≤ hi) × (hi ≤ 4095)
+
+-- ys holds the column f in its register at b; below b, and from the end of the registers on, it is xs
 pub record Step (b m : ℕ) (f : ℕ → Bool) (xs ys : List ℕ) : Type 0 where
   pub here : register b m ys ≡ pack m f
   pub low : take b ys ≡ take b xs
-  pub high : drop 5280 ys ≡ drop 5280 xs
+  pub high : drop scratchSize ys ≡ drop scratchSize xs
 
 -- a step where `on`, and nothing where not
 pub record Maybe (on : Bool) (b m : ℕ) (f : ℕ → Bool) (xs ys : List ℕ) : Type 0 where
@@ -54,13 +74,13 @@ nodeColumn Release x n states c d = releaseOf n (x .lo) (x .hi) (words n) c d
 
 -- the column of node x in a scratch xs
 abbrev pub columnIn : Node → ℕ → List ℕ → List ℕ → ℕ → Bool
-columnIn x n states xs = nodeColumn (opOf (x .kind)) x n states (register (80 * x .left) (words n) xs) (register (80 * x .right) (words n) xs)
+columnIn x n states xs = nodeColumn (opOf (x .kind)) x n states (register (registerSize * x .left) (words n) xs) (register (registerSize * x .right) (words n) xs)
 
 -- a node that can be computed at place i
 pub record Computable (i n : ℕ) (x : Node) (xs : List ℕ) : Type 0 where
   pub place : i < 64
   pub short : n ≤ 5120
-  pub enough : 5280 ≤ length xs
+  pub enough : scratchSize ≤ length xs
   pub fitting : fits i x ≡ true
 
 -- ---- marks of the nodes that are needed
@@ -83,10 +103,10 @@ pub record Needs (nodes : List Node) (i k : ℕ) (marks : List Bool) : Type 0 wh
   pub left : (j : ℕ) → i ≤ j → j ≤ k → Follows marks j (usesOf (opOf (getD nodes j noNode .kind)) .left) (getD nodes j noNode .left)
   pub right : (j : ℕ) → i ≤ j → j ≤ k → Follows marks j (usesOf (opOf (getD nodes j noNode .kind)) .right) (getD nodes j noNode .right)
 
--- the register of each marked one of the first k nodes holds its formula's verdicts, and from 5,280 on ys is xs
+-- the register of each marked one of the first k nodes holds its formula's verdicts, and from the end of the registers on ys is xs
 pub record Run (k : ℕ) (nodes : List Node) (marks : List Bool) (trace xs ys : List ℕ) : Type 0 where
-  pub at : (j : ℕ) → j < k → marked marks j ≡ true → register (80 * j) (words (length trace)) ys ≡ packed (length trace) (holds (formulaAt nodes j) trace)
-  pub high : drop 5280 ys ≡ drop 5280 xs
+  pub at : (j : ℕ) → j < k → marked marks j ≡ true → register (registerSize * j) (words (length trace)) ys ≡ packed (length trace) (holds (formulaAt nodes j) trace)
+  pub high : drop scratchSize ys ≡ drop scratchSize xs
 
 -- the first k nodes can be computed
 pub record Runnable (k : ℕ) (nodes : List Node) (marks : List Bool) (trace xs : List ℕ) : Type 0 where
@@ -94,7 +114,7 @@ pub record Runnable (k : ℕ) (nodes : List Node) (marks : List Bool) (trace xs 
   pub places : k ≤ 64
   pub fitting : (i : ℕ) → i < k → fits i (getD nodes i noNode) ≡ true
   pub short : length trace ≤ 5120
-  pub enough : 5280 ≤ length xs
+  pub enough : scratchSize ≤ length xs
   pub needs : Needs nodes 0 (k - 1) marks
 
 -- the verdicts of node k at the first `count` ticks can be given
@@ -103,5 +123,5 @@ pub record Ready (ns : List Node) (k : ℕ) (trace : List ℕ) (count : ℕ) (sc
   pub fitting : (i : ℕ) → i < k + 1 → fits i (getD ns i noNode) ≡ true
   pub short : length trace ≤ 5120
   pub ticks : count ≤ length trace
-  pub scratch-words : 5280 ≤ length scratch
+  pub scratch-words : scratchSize ≤ length scratch
   pub out-words : words count ≤ length out

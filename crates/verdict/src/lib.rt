@@ -1,145 +1,34 @@
 // Whole-trace verdicts: a register of bits for each node that the formula needs, run on words of 64.
 ghost use mathlib.Core.Path.{_≡_};
 ghost use mathlib.Core.Bool.{_&&_, _||_};
-ghost use mathlib.Core.List.{_++_};
-ghost use Prim.Native.Nat.{ℕ, _+_, _-_, _*_, _^_, _≤_, _<_};
+ghost use mathlib.Core.List.{List, _++_};
+ghost use Prim.Native.Nat.{ℕ, _+_, _*_, _≤_, _<_};
 ghost use lib.Dec.{eqb};
-ghost use lib.ListN.{length, getD};
+ghost use lib.ListN.{length};
 ghost use lib.Seq.{paste};
 ghost use Rattle.lists.specs.Bits.{bitAt, words, below};
 ghost use Rattle.lists.specs.Choice.{pick, first};
 ghost use Rattle.mltl.specs.Mltl.{eventually, opposite};
 ghost use Rattle.column.specs.Column.{register, Laid, flipped, filled};
 ghost use Rattle.pair.specs.Pair.{both};
-ghost use Rattle.moves.specs.Moves.{moved};
 ghost use Rattle.signal.specs.Signal.{signalColumn};
+ghost use Rattle.windows.specs.Windows.{untilOf, releaseOf};
 ghost use Rattle.verdict.specs.Verdict.{told, cleared, fitsTo, enough, Judged, wholeRows, Answered};
 ghost use Rattle.table.specs.Nodes.{formulaAt};
-ghost use Rattle.verdict.specs.Windows.{widthOf, Interval, Eventually, Always, First, Pair, third, Three, OfThree, untilOf, releaseOf};
-ghost use Rattle.verdict.specs.Steps.{Place, Operand, Step, Maybe, columnIn, Computable, Grown, Needs, Run, Runnable, Ready};
+ghost use Rattle.verdict.specs.Steps.{registerSize, Interval, Place, Operand, Step, Maybe, columnIn, Computable, Grown, Needs, Run, Runnable, Ready};
 use table::Node;
 use table::Table;
 
-// ---- F: one register, the whole slice
+// The words of a register.
+const REGISTER: usize = 80;
 
-// Bit t becomes whether one of the 2 ^ k bits from t on is set.
-fn some_within(s: &mut [u64], k: usize)
-    requires { ⌜ k < 64 ⌝ }
-    ensures { λ _. ⌜ Eventually 0 (2 ^ k - 1) (now (s .entry)) (now (s .exit)) ⌝ }
-{
-    for j in 0..k {
-        moves::join_moved(s, 1 << j);
-    }
-}
+// For U and R two more follow those of the 64 nodes: one for the left operand, and one to work in.
+const LEFT: usize = 64 * REGISTER;
 
-// The windows are widened by 2 ^ k - 1 bits for each of the first `count` parts k.
-fn widen(s: &mut [u64], ks: [u8; 12], count: usize)
-    requires { ⌜ (count ≤ 12) × ((i : ℕ) → i < count → getD ks i 0 < 64) ⌝ }
-    ensures { λ _. ⌜ Eventually 0 (widthOf count ks) (now (s .entry)) (now (s .exit)) ⌝ }
-{
-    for i in 0..count {
-        let k = ks[i] as usize;
-        some_within(s, k);
-    }
-}
+const WORK: usize = LEFT + REGISTER;
 
-// Bit t becomes whether one of the bits from t + lo to t + hi is set.
-fn some_later(s: &mut [u64], lo: u16, hi: u16)
-    requires { ⌜ Interval lo hi ⌝ }
-    ensures { λ _. ⌜ Eventually lo hi (now (s .entry)) (now (s .exit)) ⌝ }
-{
-    let cut = interval::split(lo, hi);
-    let ks = cut.parts;
-    let count = cut.count;
-    moves::move_down(s, lo as usize);
-    widen(s, ks, count);
-}
-
-// Bit t becomes whether all of the bits from t + lo to t + hi that lie below n are set.
-fn all_later(s: &mut [u64], lo: u16, hi: u16, n: usize)
-    requires { ⌜ Interval lo hi ⌝ }
-    ensures { λ _. ⌜ Always lo hi n (now (s .entry)) (now (s .exit)) ⌝ }
-{
-    column::complement(s, n);
-    some_later(s, lo, hi);
-    column::complement(s, n);
-}
-
-// ---- U: the right operand in the first register of a slice, the left one in the second, d words in
-
-// Bit t of the first register becomes whether it is set at one of the 2 ^ k bits from t on, with that of the second set at each before. The second is
-// used up.
-fn until_within(s: &mut [u64], d: usize, k: usize)
-    requires { ⌜ (d ≤ length (now s)) × (length (now s) ≤ d + d) × (k < 64) ⌝ }
-    ensures { λ _. ⌜ First d (length (now (s .entry)) - d) (untilOf 0 (2 ^ k - 1) (length (now (s .entry)) - d) (register d (length (now (s .entry)) - d) (now (s .entry))) (register 0 (length (now (s .entry)) - d) (now (s .entry)))) (now (s .entry)) (now (s .exit)) ⌝ }
-{
-    for j in 0..k {
-        moves::reach(s, d, 1 << j);
-        moves::meet_moved(&mut s[d..], 1 << j);
-    }
-}
-
-// The next functions take a slice that holds three registers: the first at 0, the second at d, and the third, which is used, 80 words after the second.
-
-// The first register's windows are widened by 2 ^ k - 1 bits for each of the first `count` parts k, where the second is set before.
-fn until_parts(s: &mut [u64], d: usize, ks: [u8; 12], count: usize)
-    requires { ⌜ Three d (now s) ⌝ }
-    requires { ⌜ (count ≤ 12) × ((i : ℕ) → i < count → getD ks i 0 < 64) ⌝ }
-    ensures { λ _. ⌜ OfThree (untilOf 0 (widthOf count ks)) d (now (s .entry)) (now (s .exit)) ⌝ }
-{
-    for i in 0..count {
-        let k = ks[i] as usize;
-        pair::copy_into(&mut s[d..], 80);
-        until_within(s, d + 80, k);
-    }
-}
-
-// The first two registers are moved down.
-fn two_down(s: &mut [u64], d: usize, by: usize)
-    requires { ⌜ Three d (now s) ⌝ }
-    ensures { λ _. ⌜ Pair d (third d (now (s .entry))) (moved by) (now (s .entry)) (now (s .exit)) ⌝ }
-{
-    let m = s.len() - (d + 80);
-    let e = d + m;
-    moves::move_down(&mut s[0..m], by);
-    moves::move_down(&mut s[d..e], by);
-}
-
-// The first n bits of the first two registers are flipped, and the others are clear.
-fn two_flipped(s: &mut [u64], d: usize, n: usize)
-    requires { ⌜ Three d (now s) ⌝ }
-    ensures { λ _. ⌜ Pair d (third d (now (s .entry))) (flipped n) (now (s .entry)) (now (s .exit)) ⌝ }
-{
-    let m = s.len() - (d + 80);
-    let e = d + m;
-    column::complement(&mut s[0..m], n);
-    column::complement(&mut s[d..e], n);
-}
-
-// Bit t of the first register becomes whether it is set at one of the bits from t + lo to t + hi, with that of the second set from t + lo on and before.
-fn until_later(s: &mut [u64], d: usize, lo: u16, hi: u16)
-    requires { ⌜ Three d (now s) ⌝ }
-    requires { ⌜ Interval lo hi ⌝ }
-    ensures { λ _. ⌜ OfThree (untilOf lo hi) d (now (s .entry)) (now (s .exit)) ⌝ }
-{
-    let cut = interval::split(lo, hi);
-    let ks = cut.parts;
-    let count = cut.count;
-    two_down(s, d, lo as usize);
-    until_parts(s, d, ks, count);
-}
-
-// The same of the registers' opposites below n, and its opposite below n.
-fn release_later(s: &mut [u64], d: usize, lo: u16, hi: u16, n: usize)
-    requires { ⌜ Three d (now s) ⌝ }
-    requires { ⌜ Interval lo hi ⌝ }
-    ensures { λ _. ⌜ OfThree (releaseOf n lo hi) d (now (s .entry)) (now (s .exit)) ⌝ }
-{
-    let m = s.len() - (d + 80);
-    two_flipped(s, d, n);
-    until_later(s, d, lo, hi);
-    column::complement(&mut s[0..m], n);
-}
+// The words of all registers.
+const SCRATCH: usize = WORK + REGISTER;
 
 // ---- nodes: registers at a and c of the operands, at b of the node, of which m words are used
 
@@ -187,7 +76,7 @@ fn put_fill(s: &mut [u64], b: usize, m: usize, n: usize)
 }
 
 fn put_not(s: &mut [u64], a: usize, b: usize, m: usize, n: usize)
-    requires { ⌜ Place b m (now s) × (a + 80 ≤ b) ⌝ }
+    requires { ⌜ Place b m (now s) × (a + registerSize ≤ b) ⌝ }
     ensures { λ _. ⌜ Step b m (flipped n (register a m (now (s .entry)))) (now (s .entry)) (now (s .exit)) ⌝ }
 {
     let e = b + m;
@@ -196,7 +85,7 @@ fn put_not(s: &mut [u64], a: usize, b: usize, m: usize, n: usize)
 }
 
 fn put_and(s: &mut [u64], a: usize, c: usize, b: usize, m: usize)
-    requires { ⌜ Place b m (now s) × (a + 80 ≤ b) × (c + 80 ≤ b) ⌝ }
+    requires { ⌜ Place b m (now s) × (a + registerSize ≤ b) × (c + registerSize ≤ b) ⌝ }
     ensures { λ _. ⌜ Step b m (both _&&_ (register a m (now (s .entry))) (register c m (now (s .entry)))) (now (s .entry)) (now (s .exit)) ⌝ }
 {
     load(s, a, b, m);
@@ -204,7 +93,7 @@ fn put_and(s: &mut [u64], a: usize, c: usize, b: usize, m: usize)
 }
 
 fn put_or(s: &mut [u64], a: usize, c: usize, b: usize, m: usize)
-    requires { ⌜ Place b m (now s) × (a + 80 ≤ b) × (c + 80 ≤ b) ⌝ }
+    requires { ⌜ Place b m (now s) × (a + registerSize ≤ b) × (c + registerSize ≤ b) ⌝ }
     ensures { λ _. ⌜ Step b m (both _||_ (register a m (now (s .entry))) (register c m (now (s .entry)))) (now (s .entry)) (now (s .exit)) ⌝ }
 {
     load(s, a, b, m);
@@ -212,41 +101,41 @@ fn put_or(s: &mut [u64], a: usize, c: usize, b: usize, m: usize)
 }
 
 fn put_some(s: &mut [u64], a: usize, b: usize, m: usize, lo: u16, hi: u16)
-    requires { ⌜ Place b m (now s) × (a + 80 ≤ b) × Interval lo hi ⌝ }
+    requires { ⌜ Place b m (now s) × (a + registerSize ≤ b) × Interval lo hi ⌝ }
     ensures { λ _. ⌜ Step b m (eventually (64 * m) lo hi (bitAt (register a m (now (s .entry))))) (now (s .entry)) (now (s .exit)) ⌝ }
 {
     let e = b + m;
     load(s, a, b, m);
-    some_later(&mut s[b..e], lo, hi);
+    windows::some_later(&mut s[b..e], lo, hi);
 }
 
 fn put_all(s: &mut [u64], a: usize, b: usize, m: usize, lo: u16, hi: u16, n: usize)
-    requires { ⌜ Place b m (now s) × (a + 80 ≤ b) × Interval lo hi ⌝ }
+    requires { ⌜ Place b m (now s) × (a + registerSize ≤ b) × Interval lo hi ⌝ }
     ensures { λ _. ⌜ Step b m (below n (opposite (eventually (64 * m) lo hi (flipped n (register a m (now (s .entry))))))) (now (s .entry)) (now (s .exit)) ⌝ }
 {
     let e = b + m;
     load(s, a, b, m);
-    all_later(&mut s[b..e], lo, hi, n);
+    windows::all_later(&mut s[b..e], lo, hi, n);
 }
 
 fn put_until(s: &mut [u64], a: usize, c: usize, b: usize, m: usize, lo: u16, hi: u16)
-    requires { ⌜ Place b m (now s) × (a + 80 ≤ b) × (c + 80 ≤ b) × Interval lo hi ⌝ }
+    requires { ⌜ Place b m (now s) × (a + registerSize ≤ b) × (c + registerSize ≤ b) × Interval lo hi ⌝ }
     ensures { λ _. ⌜ Step b m (untilOf lo hi m (register a m (now (s .entry))) (register c m (now (s .entry)))) (now (s .entry)) (now (s .exit)) ⌝ }
 {
-    let e = 5200 + m;
+    let e = WORK + m;
     load(s, c, b, m);
-    load(s, a, 5120, m);
-    until_later(&mut s[b..e], 5120 - b, lo, hi);
+    load(s, a, LEFT, m);
+    windows::until_later(&mut s[b..e], LEFT - b, WORK - b, lo, hi);
 }
 
 fn put_release(s: &mut [u64], a: usize, c: usize, b: usize, m: usize, lo: u16, hi: u16, n: usize)
-    requires { ⌜ Place b m (now s) × (a + 80 ≤ b) × (c + 80 ≤ b) × Interval lo hi ⌝ }
+    requires { ⌜ Place b m (now s) × (a + registerSize ≤ b) × (c + registerSize ≤ b) × Interval lo hi ⌝ }
     ensures { λ _. ⌜ Step b m (releaseOf n lo hi m (register a m (now (s .entry))) (register c m (now (s .entry)))) (now (s .entry)) (now (s .exit)) ⌝ }
 {
-    let e = 5200 + m;
+    let e = WORK + m;
     load(s, c, b, m);
-    load(s, a, 5120, m);
-    release_later(&mut s[b..e], 5120 - b, lo, hi, n);
+    load(s, a, LEFT, m);
+    windows::release_later(&mut s[b..e], LEFT - b, WORK - b, lo, hi, n);
 }
 
 // How many bits of a constant's column are set: n for true.
@@ -256,20 +145,45 @@ fn bits_of(kind: u8, n: usize) -> usize
     if kind == 2 { n } else { 0 }
 }
 
-// The column of node x at place i.
-fn node_step(s: &mut [u64], x: Node, i: usize, n: usize, older: &[u32], newer: &[u32])
-    requires { ⌜ Computable i n x (now s) ⌝ }
-    ensures { λ _. ⌜ Step (80 * i) (words n) (columnIn x n (now (older .entry) ++ now (newer .entry)) (now (s .entry))) (now (s .entry)) (now (s .exit)) ⌝ }
+// The column of node x at place i, whose kind is F, G, U or R. No state is read.
+fn window_step(s: &mut [u64], x: Node, i: usize, n: usize)
+    requires { ⌜ Computable i n x (now s) × (7 ≤ x .kind) × (x .kind ≤ 10) ⌝ }
+    ensures { λ _. ⌜ ((states : List ℕ) → Step (registerSize * i) (words n) (columnIn x n states (now (s .entry))) (now (s .entry)) (now (s .exit))) ⌝ }
 {
     let m = (n + 63) / 64;
-    let b = 80 * i;
-    let a = 80 * (x.left as usize);
-    let c = 80 * (x.right as usize);
+    let b = REGISTER * i;
+    let a = REGISTER * (x.left as usize);
+    let c = REGISTER * (x.right as usize);
     let k = x.kind;
     let lo = x.lo;
     let hi = x.hi;
-    if k == 1 {
-        put_signal(s, b, m, older, newer, x.arg);
+    if k == 7 {
+        put_some(s, a, b, m, lo, hi);
+        return;
+    }
+    if k == 8 {
+        put_all(s, a, b, m, lo, hi, n);
+        return;
+    }
+    if k == 9 {
+        put_until(s, a, c, b, m, lo, hi);
+        return;
+    }
+    put_release(s, a, c, b, m, lo, hi, n);
+}
+
+// The column of node x at place i, of any kind but a signal. No state is read.
+fn stateless_step(s: &mut [u64], x: Node, i: usize, n: usize)
+    requires { ⌜ Computable i n x (now s) × (x .kind ≡ 1 → ⊥) ⌝ }
+    ensures { λ _. ⌜ ((states : List ℕ) → Step (registerSize * i) (words n) (columnIn x n states (now (s .entry))) (now (s .entry)) (now (s .exit))) ⌝ }
+{
+    let m = (n + 63) / 64;
+    let b = REGISTER * i;
+    let a = REGISTER * (x.left as usize);
+    let c = REGISTER * (x.right as usize);
+    let k = x.kind;
+    if (7 <= k) & (k <= 10) {
+        window_step(s, x, i, n);
         return;
     }
     if k == 4 {
@@ -284,29 +198,27 @@ fn node_step(s: &mut [u64], x: Node, i: usize, n: usize, older: &[u32], newer: &
         put_or(s, a, c, b, m);
         return;
     }
-    if k == 7 {
-        put_some(s, a, b, m, lo, hi);
-        return;
-    }
-    if k == 8 {
-        put_all(s, a, b, m, lo, hi, n);
-        return;
-    }
-    if k == 9 {
-        put_until(s, a, c, b, m, lo, hi);
-        return;
-    }
-    if k == 10 {
-        put_release(s, a, c, b, m, lo, hi, n);
-        return;
-    }
     put_fill(s, b, m, bits_of(k, n));
 }
 
-// The same, where `on`.
+// The column of node x at place i.
+fn node_step(s: &mut [u64], x: Node, i: usize, n: usize, older: &[u32], newer: &[u32])
+    requires { ⌜ Computable i n x (now s) ⌝ }
+    ensures { λ _. ⌜ Step (registerSize * i) (words n) (columnIn x n (now (older .entry) ++ now (newer .entry)) (now (s .entry))) (now (s .entry)) (now (s .exit)) ⌝ }
+{
+    let m = (n + 63) / 64;
+    let b = REGISTER * i;
+    if x.kind == 1 {
+        put_signal(s, b, m, older, newer, x.arg);
+        return;
+    }
+    stateless_step(s, x, i, n);
+}
+
+// The column of node x at place i, where `on`.
 fn step_if(on: bool, s: &mut [u64], x: Node, i: usize, n: usize, older: &[u32], newer: &[u32])
     requires { ⌜ Computable i n x (now s) ⌝ }
-    ensures { λ _. ⌜ Maybe on (80 * i) (words n) (columnIn x n (now (older .entry) ++ now (newer .entry)) (now (s .entry))) (now (s .entry)) (now (s .exit)) ⌝ }
+    ensures { λ _. ⌜ Maybe on (registerSize * i) (words n) (columnIn x n (now (older .entry) ++ now (newer .entry)) (now (s .entry))) (now (s .entry)) (now (s .exit)) ⌝ }
 {
     if on {
         node_step(s, x, i, n, older, newer);
@@ -390,9 +302,9 @@ fn evaluate(
     let m = (count + 63) / 64;
     let marks = needed(t, k);
     run(t, marks, k + 1, older, newer, scratch);
-    copy_out(scratch, 80 * k, m, out);
+    copy_out(scratch, REGISTER * k, m, out);
     column::keep_below(&mut out[0..m], count);
-    column::clear(&mut scratch[0..5280]);
+    column::clear(&mut scratch[0..SCRATCH]);
 }
 
 // Whether every node up to place k keeps the limits at its place.
@@ -423,7 +335,7 @@ fn has_enough(older: usize, newer: usize, count: usize, scratch: usize, out: usi
     if older + newer < count {
         return false;
     }
-    (5280 <= scratch) & ((count + 63) / 64 <= out)
+    (SCRATCH <= scratch) & ((count + 63) / 64 <= out)
 }
 
 // The verdicts of the node at place k at the first `count` ticks of the trace `older` and then `newer`, which are read where they lie;

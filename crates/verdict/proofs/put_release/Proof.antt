@@ -1,11 +1,6 @@
 -- `verdict::put_release` meets its contract. Assumes nothing.
-use Prim.Native.Nat.{_*_}
-use mathlib.Core.Bool.{_&&_, not}
 use borrow.Author.Needs.{needs}
-use lib.Dec.{ltb}
-use Rattle.lists.specs.Bits.{below}
-use Rattle.mltl.specs.Mltl.{opposite, until}
-use Rattle.verdict.proofs.Steps.{reaching}
+use Rattle.verdict.proofs.Steps.{release-step}
 use Rattle.verdict.proofs.put_release.Statement.{statement}
 use Rattle.verdict.proofs.put_release.Tie as tie
 
@@ -17,11 +12,11 @@ returns c =
     let i = p .before .before .before in
     let a = i .args in
     let h = i .pre in
-    reaching (λ k f g. below (a .n) (opposite (until (64 * k) (a .lo) (a .hi) (λ t. ltb t (a .n) && not (f t)) (λ t. ltb t (a .n) && not (g t))))) (a .a) (a .c) (u .last .0) (h .0) (h .1) (h .2) (p .load .ensures) (o .load2 .ensures) (u .kept .0) (u .ensures)
+    release-step (a .a) (a .c) (u .last .0) (h .0) (h .1) (h .2) (p .load .ensures) (o .load2 .ensures) (u .kept .0) (a .lo) (a .hi) (a .n) (h .3) (u .ensures)
 
 pub put-release-spec : {M : Type 1} → statement M
 put-release-spec =
     tie.close
     (tie.spec
-    (search needs) (search needs) (search needs) (search needs) (search needs) (search needs) (search needs) (search needs) (search needs) (search needs)
+    (search needs) (search needs) (search needs) (search needs) (search needs) (search needs) (search needs) (search needs) (search needs) (search needs) (search needs)
     returns)

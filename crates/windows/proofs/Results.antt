@@ -1,0 +1,120 @@
+-- The tests for unfit calls, and what a caller reads off the contracts. Assumes nothing.
+use mathlib.Core.Path.{_≡_, sym, ap, _∙_}
+use mathlib.Core.Bool.{Bool, true, false, _||_}
+use mathlib.Core.List.{List}
+use Prim.Native.Nat.{ℕ, _≤_, _<_, _-_, _+_}
+use native.Mathlib.Omega.{arith}
+use borrow.Author.Tests.{le-ltb, lt-ltb, ltb-false}
+use lib.Dec.{ltb}
+use lib.ListN.{length}
+use Rattle.lists.specs.Bits.{bitAt, pack, below}
+use Rattle.lists.specs.Choice.{pick}
+use Rattle.lists.proofs.Tests.{or-left, or-right}
+use Rattle.mltl.specs.Mltl.{eventually, opposite}
+use Rattle.interval.specs.Parts.{badInterval, parts}
+use Rattle.column.specs.Column.{register, lay, Turned, flipped}
+use Rattle.column.proofs.Registers.{register-lay, length-lay}
+use Rattle.moves.specs.Moves.{moved}
+use Rattle.windows.specs.Windows.{span, someLater, allLater, third, misplaced, untilOf, releaseOf, used, untilLater, releaseLater}
+use Rattle.windows.specs.Steps.{Three}
+use Rattle.windows.proofs.Lays.{used-length}
+
+-- ---- by a test, a list as it was or another one
+pub stays : (xs ys : List ℕ) {b : Bool} → b ≡ true → xs ≡ pick b xs ys
+stays xs ys e = sym (ap (λ (b : Bool). pick b xs ys) e)
+
+pub turns : (xs ys : List ℕ) {b : Bool} {zs : List ℕ} → b ≡ false → zs ≡ ys → zs ≡ pick b xs ys
+turns xs ys e q = q ∙ sym (ap (λ (b : Bool). pick b xs ys) e)
+
+turned : (xs ys : List ℕ) {b : Bool} {zs : List ℕ} → b ≡ false → zs ≡ pick b xs ys → zs ≡ ys
+turned xs ys e q = q ∙ ap (λ (b : Bool). pick b xs ys) e
+
+-- ---- the tests
+module _ {lo hi : ℕ} where
+  pub interval-is : badInterval lo hi ≡ false → (lo ≤ hi) × (hi ≤ 4095)
+  interval-is e = (ltb-false hi lo (or-left (ltb hi lo) (ltb 4095 hi) e), ltb-false 4095 hi (or-right (ltb hi lo) (ltb 4095 hi) e))
+
+  pub interval-fits : lo ≤ hi → hi ≤ 4095 → badInterval lo hi ≡ false
+  interval-fits a b = rw (le-ltb hi lo a, le-ltb 4095 hi b)
+
+module _ (d e n : ℕ) where
+  pub second-late : e < d → true ≡ misplaced d e n
+  second-late h = rw (lt-ltb e d h)
+
+  pub words-few : d ≤ e → n < e → true ≡ misplaced d e n
+  words-few h k = rw (le-ltb e d h, lt-ltb n e k)
+
+  pub words-enough : d ≤ e → e ≤ n → (ltb d (n - e) || ltb (e - d) (n - e)) ≡ misplaced d e n
+  words-enough h k = rw (le-ltb e d h, le-ltb n e k)
+
+module _ {d e : ℕ} {xs : List ℕ} where
+  pub three-is : misplaced d e (length xs) ≡ false → Three d e xs
+  three-is q =
+      let n : ℕ = length xs in
+      let q₁ = or-left (ltb e d || ltb n e || ltb d (n - e)) (ltb (e - d) (n - e)) q in
+      let q₂ = or-left (ltb e d || ltb n e) (ltb d (n - e)) q₁ in
+      let a : d ≤ e = ltb-false e d (or-left (ltb e d) (ltb n e) q₂) in
+      let b : e ≤ n = ltb-false n e (or-right (ltb e d) (ltb n e) q₂) in
+      let c : n - e ≤ d = ltb-false d (n - e) (or-right (ltb e d || ltb n e) (ltb d (n - e)) q₁) in
+      let f : n - e ≤ e - d = ltb-false (e - d) (n - e) (or-right (ltb e d || ltb n e || ltb d (n - e)) (ltb (e - d) (n - e)) q) in
+      record { low = b; high = omega arith; apart = omega arith }
+
+  pub three-fits : Three d e xs → misplaced d e (length xs) ≡ false
+  three-fits h =
+      let i = h .low in
+      let j = h .high in
+      let k = h .apart in
+      rw (le-ltb e d (omega arith), le-ltb (length xs) e i, le-ltb d (length xs - e) (omega arith), le-ltb (e - d) (length xs - e) (omega arith))
+
+  pub three-kept : {ys : List ℕ} → length ys ≡ length xs → Three d e xs → Three d e ys
+  three-kept l h = let i = h .low in let j = h .high in let k = h .apart in record { low = omega arith; high = omega arith; apart = omega arith }
+
+-- both tests
+module _ {lo hi d e : ℕ} {xs : List ℕ} where
+  pub fit-is : (badInterval lo hi || misplaced d e (length xs)) ≡ false → ((lo ≤ hi) × (hi ≤ 4095)) × Three d e xs
+  fit-is q = (interval-is (or-left (badInterval lo hi) (misplaced d e (length xs)) q), three-is (or-right (badInterval lo hi) (misplaced d e (length xs)) q))
+
+  fits : (lo ≤ hi) × (hi ≤ 4095) → Three d e xs → (badInterval lo hi || misplaced d e (length xs)) ≡ false
+  fits i h = rw (interval-fits (i .0) (i .1), three-fits h)
+
+  pub until-all : (ys : List ℕ) {zs : List ℕ} → (lo ≤ hi) × (hi ≤ 4095) → length ys ≡ length xs → Three d e xs
+      → zs ≡ pick (badInterval lo hi || misplaced d e (length ys)) ys (untilLater d e lo hi ys) → zs ≡ untilLater d e lo hi ys
+  until-all ys i l h q =
+      turned ys (untilLater d e lo hi ys) (ap (λ (n : ℕ). badInterval lo hi || misplaced d e n) l ∙ fits i h) q
+
+-- ---- what a fit call leaves
+module _ {lo hi : ℕ} (a : lo ≤ hi) (b : hi ≤ 4095) where
+  pub some-turned : {xs ys : List ℕ} → ys ≡ pick (badInterval lo hi) xs (someLater lo hi xs) → Turned (eventually (span xs) lo hi (bitAt xs)) xs ys
+  unfolding someLater
+  some-turned {xs} q = record { is = turned xs (someLater lo hi xs) (interval-fits a b) q }
+
+  pub all-turned : (n : ℕ) {xs ys : List ℕ} → ys ≡ pick (badInterval lo hi) xs (allLater lo hi n xs)
+      → Turned (below n (opposite (eventually (span xs) lo hi (flipped n xs)))) xs ys
+  unfolding allLater
+  all-turned n {xs} q = record { is = turned xs (allLater lo hi n xs) (interval-fits a b) q }
+
+  module _ {d e : ℕ} {xs : List ℕ} (h : Three d e xs) where
+    -- the first register of three, over whatever lies below
+    first-of : (f g k : ℕ → Bool) (ks : List ℕ) → register 0 (third e xs) (lay 0 (third e xs) f (lay d (third e xs) g (used e (third e xs) ks k xs))) ≡ pack (third e xs) f
+    first-of f g k ks =
+        let i = h .low in
+        let j = h .high in
+        let o = h .apart in
+        let m : ℕ = third e xs in
+        let under : length (used e m ks k xs) ≡ length xs = used-length e m ks k xs (omega arith) in
+        register-lay 0 m f (lay d m g (used e m ks k xs)) (omega (arith, under, length-lay d m g (used e m ks k xs) (omega (arith, under))))
+
+    pub until-first : {ys : List ℕ} → ys ≡ pick (badInterval lo hi || misplaced d e (length xs)) xs (untilLater d e lo hi xs)
+        → register 0 (third e xs) ys ≡ pack (third e xs) (untilOf lo hi (third e xs) (register d (third e xs) xs) (register 0 (third e xs) xs))
+    unfolding untilLater
+    until-first q =
+        let c = moved lo (register d (third e xs) xs) in
+        ap (register 0 (third e xs)) (turned xs (untilLater d e lo hi xs) (fits (a, b) h) q) ∙ first-of (untilOf lo hi (third e xs) (register d (third e xs) xs) (register 0 (third e xs) xs)) c c (parts (hi - lo))
+
+    pub release-first : (n : ℕ) {ys : List ℕ} → ys ≡ pick (badInterval lo hi || misplaced d e (length xs)) xs (releaseLater d e lo hi n xs)
+        → register 0 (third e xs) ys ≡ pack (third e xs) (releaseOf n lo hi (third e xs) (register d (third e xs) xs) (register 0 (third e xs) xs))
+    unfolding releaseLater
+    release-first n q =
+        let c = moved lo (pack (third e xs) (flipped n (register d (third e xs) xs))) in
+        ap (register 0 (third e xs)) (turned xs (releaseLater d e lo hi n xs) (fits (a, b) h) q)
+        ∙ first-of (releaseOf n lo hi (third e xs) (register d (third e xs) xs) (register 0 (third e xs) xs)) c c (parts (hi - lo))
