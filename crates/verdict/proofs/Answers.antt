@@ -50,7 +50,7 @@ cut-is m count n f c e h g =
     (lt-or-le t count))
 
 -- the words of out that were copied from the register of node k, cut at `count`
-pub told-is : {ns : List Node} {marks : List Bool} {trace xs ys mid z : List ℕ} (out : List ℕ) (k count j : ℕ) → j ≡ words count → count ≤ length trace
+pub told-is : {ns : List Node} {marks : ℕ} {trace xs ys mid z : List ℕ} (out : List ℕ) (k count j : ℕ) → j ≡ words count → count ≤ length trace
     → words count ≤ length out
     → marked marks k ≡ true → Run (k + 1) ns marks trace xs ys → registerSize * k + words (length trace) ≤ length ys
     → mid ≡ paste out 0 (register (registerSize * k) (words count) ys) (words count)

@@ -1,36 +1,43 @@
 -- The columns of the nodes, one after the other, and the marks of those that are needed. Assumes nothing.
 use mathlib.Core.Path.{_≡_, refl, sym, ap, ap₂, _∙_, subst}
 use mathlib.Core.Logic.{⊎-elim}
-use mathlib.Core.Bool.{Bool, true, false, _&&_}
+use mathlib.Core.Bool.{Bool, true, _||_}
 use mathlib.Core.List.{List}
-use Prim.Native.Nat.{ℕ, _+_, _-_, _*_, _≤_, _<_}
+use Prim.Native.Nat.{ℕ, _+_, _*_, _≤_, _<_}
 use native.Mathlib.Nat.{eq-or-lt-of-le}
 use native.Mathlib.Omega.{arith}
-use lib.ListN.{length, getD, take, drop, set}
-use lib.Seq.{getD-set-same, getD-set-other}
+use borrow.Author.Tests.{eq-eqb}
+use lib.ListN.{length, getD, take, drop}
+use lib.Seq.{getD-take, length-take-le}
 use Rattle.lists.specs.Bits.{words, packed}
-use Rattle.lists.proofs.Tests.{lt-or-le, true-or-false}
+use Rattle.lists.proofs.Bits.{bit-none}
+use Rattle.lists.proofs.Tests.{true-or-false}
 use Rattle.mltl.specs.Mltl.{Formula, holds}
 use Rattle.column.specs.Column.{register}
-use Rattle.table.specs.Nodes.{opOf, usesOf, noNode, formulaAt}
+use Rattle.table.specs.Nodes.{opOf, noNode, formulaAt}
 use Rattle.table.specs.Sound.{fits}
 use Rattle.table.specs.declared.Node.{Node}
 use Rattle.table.proofs.Delays.{formula-at, formula-prefix}
-use Rattle.verdict.specs.Steps.{registerSize, scratchSize, Maybe, Run, columnIn, marked, Grown, Needs}
+use Rattle.needed.specs.Marks.{hasOperand, mark, needed}
+use Rattle.needed.proofs.Bits.{mark-bit}
+use Rattle.needed.proofs.Marked.{Marked, needed-marked, used-left, used-right}
+use Rattle.verdict.specs.Steps.{registerSize, scratchSize, Maybe, Run, columnIn, marked, Needs}
 use Rattle.verdict.proofs.Steps.{kept-register}
 use Rattle.verdict.proofs.Nodes.{fit-as, column-is}
 
 -- ---- one node more
-pub run-start : (ns : List Node) (marks : List Bool) (trace xs : List ℕ) → Run 0 ns marks trace xs xs
+pub run-start : (ns : List Node) (marks : ℕ) (trace xs : List ℕ) → Run 0 ns marks trace xs xs
 run-start ns marks trace xs = record { at = λ j h m. absurd (omega arith); high = refl }
 
--- the count of states, as the code adds it up
-pub maybe-by : {on : Bool} {b n m : ℕ} {s s′ : List ℕ} (x : Node) (trace : List ℕ) → n ≡ m → Maybe on b (words n) (columnIn x n trace s) s s′
-    → Maybe on b (words m) (columnIn x m trace s) s s′
-maybe-by {on} {b} {s = s} {s′ = s′} x trace e r = subst (λ (w : ℕ). Maybe on b (words w) (columnIn x w trace s) s s′) e r
+-- the mark, as the code asks for it, and the count of states, as it adds it up
+pub maybe-by : {on is : Bool} {b n m : ℕ} {s s′ : List ℕ} (x : Node) (trace : List ℕ) → on ≡ is → n ≡ m
+    → Maybe on b (words n) (columnIn x n trace s) s s′ → Maybe is b (words m) (columnIn x m trace s) s s′
+maybe-by {on} {b = b} {m = m} {s = s} {s′ = s′} x trace t e r =
+    subst (λ (v : Bool). Maybe v b (words m) (columnIn x m trace s) s s′) t
+    (subst (λ (w : ℕ). Maybe on b (words w) (columnIn x w trace s) s s′) e r)
 
-module _ {ns : List Node} {marks : List Bool} {trace s₀ s s′ : List ℕ} (top i : ℕ) (a : i < 64) (b : i < length ns) (bound : i ≤ top) (l : scratchSize ≤ length s)
-    (k : length s′ ≡ length s) (small : length trace ≤ 5120) (fitting : fits i (getD ns i noNode) ≡ true) (need : Needs ns 0 top marks) (r : Run i ns marks trace s₀ s)
+module _ {ns : List Node} {marks : ℕ} {trace s₀ s s′ : List ℕ} (top i : ℕ) (a : i < 64) (b : i < length ns) (bound : i ≤ top) (l : scratchSize ≤ length s)
+    (k : length s′ ≡ length s) (small : length trace ≤ 5120) (fitting : fits i (getD ns i noNode) ≡ true) (need : Needs ns top marks) (r : Run i ns marks trace s₀ s)
     (both : Maybe (marked marks i) (registerSize * i) (words (length trace)) (columnIn (getD ns i noNode) (length trace) trace s) s s′) where
   abbrev x : Node
   x = getD ns i noNode
@@ -56,8 +63,8 @@ module _ {ns : List Node} {marks : List Bool} {trace s₀ s s′ : List ℕ} (to
       both .step m .here
       ∙ column-is x i n trace (register (registerSize * x .left) (words n) s) (register (registerSize * x .right) (words n) s) (formulaAt (take i ns) (x .left))
       (formulaAt (take i ns) (x .right)) refl (opOf (x .kind))
-      (λ u. operand (x .left) (f .left u) (need .left i (omega arith) bound m u (f .left u)))
-      (λ u. operand (x .right) (f .right u) (need .right i (omega arith) bound m u (f .right u)))
+      (λ u. operand (x .left) (f .left u) (need .left i bound m u (f .left u)))
+      (λ u. operand (x .right) (f .right u) (need .right i bound m u (f .right u)))
       ∙ ap (λ (g : Formula). packed n (holds g trace)) (sym (formula-at ns i b))
 
   pub run-more : Run (i + 1) ns marks trace s₀ s′
@@ -69,56 +76,23 @@ module _ {ns : List Node} {marks : List Bool} {trace s₀ s s′ : List ℕ} (to
         high = kept .1 ∙ r .high;
       }
 
--- ---- marks
-pub grown-not : {i : ℕ} {m : List Bool} (at : ℕ) (on : Bool) → (on ≡ true → at < i → ⊥) → Grown i m at on m
-grown-not at on h = record { kept = λ j e. e; above = λ j l. refl; hit = λ e l. absurd (h e l) }
+-- ---- the marks
+-- those of what node k needs among the nodes up to it
+module _ (ns : List Node) (k : ℕ) (h : k < 64) {seed r : ℕ} (es : seed ≡ mark 0 k) (er : r ≡ needed seed (take (k + 1) ns)) (l : length ns ≡ 64) where
+  long : length (take (k + 1) ns) ≡ k + 1
+  long = length-take-le (k + 1) ns (omega arith)
 
-pub grown-set : {i : ℕ} (m : List Bool) (at : ℕ) (on : Bool) → at < i → i ≤ length m → Grown i m at on (set m at true)
-grown-set {i} m at on h l =
-    record {
-      kept = λ j e. ⊎-elim
-          (λ (q : j < at). getD-set-other m at j true false (λ z. omega arith) ∙ e)
-          (λ (q : at ≤ j).
-          ⊎-elim (λ (z : at ≡ j). subst (λ (k : ℕ). marked (set m at true) k ≡ true) z same) (λ (z : at < j). getD-set-other m at j true false (λ y. omega arith) ∙ e) (eq-or-lt-of-le q))
-          (lt-or-le j at);
-      above = λ j k. getD-set-other m at j true false (λ q. omega arith);
-      hit = λ e k. same;
-    }
-  where
-    same : marked (set m at true) at ≡ true
-    same = getD-set-same m at true false (omega arith)
+  found : Marked (mark 0 k) (take (k + 1) ns) r
+  found = rw (er, es) (needed-marked (mark 0 k) (take (k + 1) ns) (omega (arith, long)))
 
-pub needs-start : (ns : List Node) (k : ℕ) (m : List Bool) → k < length m → Needs ns (k + 1 - 0) k (set m k true)
-needs-start ns k m h =
-    record {
-      top = getD-set-same m k true false h;
-      left = λ j a b e t l. absurd (omega arith);
-      right = λ j a b e t l. absurd (omega arith);
-    }
+  follows : (j m : ℕ) → j ≤ k → marked r j ≡ true → m < j → hasOperand (getD ns j noNode) m ≡ true → marked r m ≡ true
+  follows j m b e a u =
+      found .closed j (omega (arith, long)) e m a (ap (λ (x : Node). hasOperand x m) (getD-take (k + 1) ns j noNode (omega arith)) ∙ u)
 
--- the operands of node i marked too
-pub needs-more : {ns : List Node} {k : ℕ} {m m₁ m₂ : List Bool} (i : ℕ) (u v : Bool) → u ≡ (marked m i && usesOf (opOf (getD ns i noNode .kind)) .left)
-    → v ≡ (marked m i && usesOf (opOf (getD ns i noNode .kind)) .right) → Needs ns (i + 1) k m → Grown i m (getD ns i noNode .left) u m₁
-    → Grown i m₁ (getD ns i noNode .right) v m₂ → Needs ns i k m₂
-needs-more {ns} {k} {m} {m₁} {m₂} i u v eu ev r p q =
-    record {
-      top = q .kept k (p .kept k (r .top));
-      left = λ j a b e t l.
-          let old : marked m j ≡ true = sym (p .above j a) ∙ sym (q .above j a) ∙ e in
-          q .kept _ (⊎-elim
-          (λ (s : i ≡ j).
-          subst (λ (w : ℕ). marked m₁ (getD ns w noNode .left) ≡ true) s
-          (p .hit (eu ∙ ap₂ _&&_ (ap (marked m) s ∙ old) (ap (λ (w : ℕ). usesOf (opOf (getD ns w noNode .kind)) .left) s ∙ t))
-          (subst (λ (w : ℕ). getD ns w noNode .left < w) (sym s) l)))
-          (λ (s : i < j). p .kept _ (r .left j (omega arith) b old t l))
-          (eq-or-lt-of-le a));
-      right = λ j a b e t l.
-          let old : marked m j ≡ true = sym (p .above j a) ∙ sym (q .above j a) ∙ e in
-          ⊎-elim
-          (λ (s : i ≡ j).
-          subst (λ (w : ℕ). marked m₂ (getD ns w noNode .right) ≡ true) s
-          (q .hit (ev ∙ ap₂ _&&_ (ap (marked m) s ∙ old) (ap (λ (w : ℕ). usesOf (opOf (getD ns w noNode .kind)) .right) s ∙ t))
-          (subst (λ (w : ℕ). getD ns w noNode .right < w) (sym s) l)))
-          (λ (s : i < j). q .kept _ (p .kept _ (r .right j (omega arith) b old t l)))
-          (eq-or-lt-of-le a);
-    }
+  pub needs-by : Needs ns k r
+  needs-by =
+      record {
+        top = found .up k h (mark-bit 0 k k h ∙ ap₂ _||_ (bit-none k) (eq-eqb k k refl));
+        left = λ j b e t a. follows j _ b e a (used-left (getD ns j noNode) t);
+        right = λ j b e t a. follows j _ b e a (used-right (getD ns j noNode) t);
+      }

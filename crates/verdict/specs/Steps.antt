@@ -4,7 +4,7 @@ use mathlib.Core.Bool.{Bool, true, false, _||_, _&&_}
 use mathlib.Core.List.{List}
 use Prim.Native.Nat.{ℕ, _+_, _-_, _*_, _≤_, _<_}
 use lib.ListN.{length, getD, take, drop}
-use Rattle.lists.specs.Bits.{words, bitAt, pack, packed, below}
+use Rattle.lists.specs.Bits.{bit, words, bitAt, pack, packed, below}
 use Rattle.mltl.specs.Mltl.{holds, eventually, opposite}
 use Rattle.column.specs.Column.{register, filled, flipped}
 use Rattle.pair.specs.Pair.{both}
@@ -84,38 +84,32 @@ pub record Computable (i n : ℕ) (x : Node) (xs : List ℕ) : Type 0 where
   pub fitting : fits i x ≡ true
 
 -- ---- marks of the nodes that are needed
-abbrev pub marked : List Bool → ℕ → Bool
-marked marks i = getD marks i false
-
--- the marks r are the marks m and, where `on`, one at `at` below i
-pub record Grown (i : ℕ) (m : List Bool) (at : ℕ) (on : Bool) (r : List Bool) : Type 0 where
-  pub kept : (j : ℕ) → marked m j ≡ true → marked r j ≡ true
-  pub above : (j : ℕ) → i ≤ j → marked r j ≡ marked m j
-  pub hit : on ≡ true → at < i → marked r at ≡ true
+abbrev pub marked : ℕ → ℕ → Bool
+marked marks i = bit marks i
 
 -- of the marked node j an operand that it uses is marked
-abbrev pub Follows : List Bool → ℕ → Bool → ℕ → Type 0
+abbrev pub Follows : ℕ → ℕ → Bool → ℕ → Type 0
 Follows marks j used operand = marked marks j ≡ true → used ≡ true → operand < j → marked marks operand ≡ true
 
--- node k is marked, and of each marked node from i to k the operands
-pub record Needs (nodes : List Node) (i k : ℕ) (marks : List Bool) : Type 0 where
+-- node k is marked, and of each marked node up to k the operands
+pub record Needs (nodes : List Node) (k marks : ℕ) : Type 0 where
   pub top : marked marks k ≡ true
-  pub left : (j : ℕ) → i ≤ j → j ≤ k → Follows marks j (usesOf (opOf (getD nodes j noNode .kind)) .left) (getD nodes j noNode .left)
-  pub right : (j : ℕ) → i ≤ j → j ≤ k → Follows marks j (usesOf (opOf (getD nodes j noNode .kind)) .right) (getD nodes j noNode .right)
+  pub left : (j : ℕ) → j ≤ k → Follows marks j (usesOf (opOf (getD nodes j noNode .kind)) .left) (getD nodes j noNode .left)
+  pub right : (j : ℕ) → j ≤ k → Follows marks j (usesOf (opOf (getD nodes j noNode .kind)) .right) (getD nodes j noNode .right)
 
 -- the register of each marked one of the first k nodes holds its formula's verdicts, and from the end of the registers on ys is xs
-pub record Run (k : ℕ) (nodes : List Node) (marks : List Bool) (trace xs ys : List ℕ) : Type 0 where
+pub record Run (k : ℕ) (nodes : List Node) (marks : ℕ) (trace xs ys : List ℕ) : Type 0 where
   pub at : (j : ℕ) → j < k → marked marks j ≡ true → register (registerSize * j) (words (length trace)) ys ≡ packed (length trace) (holds (formulaAt nodes j) trace)
   pub high : drop scratchSize ys ≡ drop scratchSize xs
 
 -- the first k nodes can be computed
-pub record Runnable (k : ℕ) (nodes : List Node) (marks : List Bool) (trace xs : List ℕ) : Type 0 where
+pub record Runnable (k : ℕ) (nodes : List Node) (marks : ℕ) (trace xs : List ℕ) : Type 0 where
   pub some : 0 < k
   pub places : k ≤ 64
   pub fitting : (i : ℕ) → i < k → fits i (getD nodes i noNode) ≡ true
   pub short : length trace ≤ 5120
   pub enough : scratchSize ≤ length xs
-  pub needs : Needs nodes 0 (k - 1) marks
+  pub needs : Needs nodes (k - 1) marks
 
 -- the verdicts of node k at the first `count` ticks can be given
 pub record Ready (ns : List Node) (k : ℕ) (trace : List ℕ) (count : ℕ) (scratch out : List ℕ) : Type 0 where

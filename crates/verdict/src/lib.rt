@@ -15,7 +15,7 @@ ghost use Rattle.signal.specs.Signal.{signalColumn};
 ghost use Rattle.windows.specs.Windows.{untilOf, releaseOf};
 ghost use Rattle.verdict.specs.Verdict.{told, cleared, fitsTo, enough, Judged, wholeRows, Answered};
 ghost use Rattle.table.specs.Nodes.{formulaAt};
-ghost use Rattle.verdict.specs.Steps.{registerSize, Interval, Place, Operand, Step, Maybe, columnIn, Computable, Grown, Needs, Run, Runnable, Ready};
+ghost use Rattle.verdict.specs.Steps.{registerSize, Interval, Place, Operand, Step, Maybe, columnIn, Computable, Needs, Run, Runnable, Ready};
 use table::Node;
 use table::Table;
 
@@ -225,54 +225,26 @@ fn step_if(on: bool, s: &mut [u64], x: Node, i: usize, n: usize, older: &[u32], 
     }
 }
 
-// ---- which nodes are needed
-
-// A mark at `at`, where `on` and it is below i.
-fn mark(m: [bool; 64], at: usize, on: bool, i: usize) -> [bool; 64]
-    requires { ⌜ i ≤ 64 ⌝ }
-    ensures { λ r. ⌜ Grown i m at on r ⌝ }
-{
-    if on {
-        if at < i {
-            let mut r = m;
-            r[at] = true;
-            return r;
-        }
-    }
-    m
-}
-
-// The nodes that node k needs, found from k down.
-fn needed(t: Table, k: usize) -> [bool; 64]
-    requires { ⌜ k < 64 ⌝ }
-    ensures { λ r. ⌜ Needs (t .nodes) 0 k r ⌝ }
-{
-    let mut m = [false; 64];
-    m[k] = true;
-    let e = k + 1;
-    for d in 0..e {
-        let i = k - d;
-        let x = t.nodes[i];
-        let u = table::uses_of(x.kind);
-        let l = m[i] & u.left;
-        let r = m[i] & u.right;
-        let next = mark(m, x.left as usize, l, i);
-        m = mark(next, x.right as usize, r, i);
-    }
-    m
-}
-
 // ---- the evaluation
 
+// The marks of the nodes that node k needs.
+fn marks_for(t: Table, k: usize) -> u64
+    requires { ⌜ k < 64 ⌝ }
+    ensures { λ r. ⌜ Needs (t .nodes) k r ⌝ }
+{
+    let nodes = t.nodes;
+    needed::needed(nodes, k + 1, needed::mark(0, k))
+}
+
 // The columns of the marked ones of the first `upto` nodes.
-fn run(t: Table, marks: [bool; 64], upto: usize, older: &[u32], newer: &[u32], s: &mut [u64])
+fn run(t: Table, marks: u64, upto: usize, older: &[u32], newer: &[u32], s: &mut [u64])
     requires { ⌜ Runnable upto (t .nodes) marks (now older ++ now newer) (now s) ⌝ }
     ensures { λ _. ⌜ Run upto (t .nodes) marks (now (older .entry) ++ now (newer .entry)) (now (s .entry)) (now (s .exit)) ⌝ }
 {
     let n = older.len() + newer.len();
     for i in 0..upto {
         let x = t.nodes[i];
-        step_if(marks[i], s, x, i, n, older, newer);
+        step_if(needed::is_marked(marks, i), s, x, i, n, older, newer);
     }
 }
 
@@ -300,7 +272,7 @@ fn evaluate(
     ensures { λ _. ⌜ (now (out .exit) ≡ told (formulaAt (t .nodes) k) (now (older .entry) ++ now (newer .entry)) count (now (out .entry))) × (now (scratch .exit) ≡ cleared (now (scratch .entry))) ⌝ }
 {
     let m = (count + 63) / 64;
-    let marks = needed(t, k);
+    let marks = marks_for(t, k);
     run(t, marks, k + 1, older, newer, scratch);
     copy_out(scratch, REGISTER * k, m, out);
     column::keep_below(&mut out[0..m], count);

@@ -11,8 +11,8 @@ use Rattle.verdict.specs.Verdict.{enough}
 use Rattle.verdict.proofs.evaluate.Statement.{statement}
 use Rattle.verdict.proofs.evaluate.Tie as tie
 
-needed-requires : tie.Need-needed-requires
-needed-requires c κs = c .before .before .before .before .pre .place
+marks-for-requires : tie.Need-marks-for-requires
+marks-for-requires c κs = c .before .before .before .before .pre .place
 
 run-requires : tie.Need-run-requires
 run-requires c κs =
@@ -26,7 +26,7 @@ run-requires c κs =
       fitting = h .fitting;
       short = h .short;
       enough = h .scratch-words;
-      needs = subst (λ (w : ℕ). Needs (a .t .nodes) 0 w (c .before .needed .result)) e (c .before .needed .ensures);
+      needs = subst (λ (w : ℕ). Needs (a .t .nodes) w (c .before .marks-for .result)) e (c .before .marks-for .ensures);
     }
 
 mul-copy-out : tie.Need-mul-copy-out
@@ -50,7 +50,7 @@ returns c =
     let h = s .pre in
     let r = run .run in
     let e : (a .count + 63) / 64 - 0 ≡ words (a .count) = omega arith in (
-      told-is (a .out .now) (a .k) (a .count) ((a .count + 63) / 64 - 0) e (h .ticks) (h .out-words) (run .before .before .needed .ensures .top) (r .ensures)
+      told-is (a .out .now) (a .k) (a .count) ((a .count + 63) / 64 - 0) e (h .ticks) (h .out-words) (run .before .before .marks-for .ensures .top) (r .ensures)
           (omega (arith, h .place, h .short, h .scratch-words, r .kept .1 .1 .1 .1 .1 .0)) (o .copy-out .ensures) (b .keep-below .ensures),
       cleared-is (a .scratch .now) (r .last .1 .1 .1 .1 .1 .0) (omega (arith, h .scratch-words, r .kept .1 .1 .1 .1 .1 .0)) (c .before .before .clear .ensures) (r .ensures .high),
     )
@@ -58,6 +58,6 @@ returns c =
 pub evaluate-spec : {M : Type 1} → statement M
 evaluate-spec =
     tie.close
-    (tie.spec (search needs) needed-requires (search needs) run-requires mul-copy-out copy-out-requires
+    (tie.spec (search needs) marks-for-requires (search needs) run-requires mul-copy-out copy-out-requires
     (search needs) (search needs) (search needs) (search needs) (search needs) (search needs) (search needs) (search needs) (search needs) (search needs)
     returns)

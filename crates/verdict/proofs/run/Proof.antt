@@ -16,18 +16,18 @@ use Rattle.verdict.proofs.run.Statement.{statement}
 use Rattle.verdict.proofs.run.Tie as tie
 
 abbrev Inv-loop : tie.InvT-loop
-Inv-loop upto older newer s₀ t marks n i₀ s i = Run i (t .nodes) marks (older ++ newer) s₀ s × (length s ≡ length s₀) × (i ≤ upto) × (length (t .nodes) ≡ 64) × (n ≡ length older + length newer)
+Inv-loop marks upto older newer s₀ t n i₀ s i = Run i (t .nodes) marks (older ++ newer) s₀ s × (length s ≡ length s₀) × (i ≤ upto) × (length (t .nodes) ≡ 64) × (n ≡ length older + length newer)
 
 abbrev μ-loop : tie.MeasureT-loop
-μ-loop upto older newer s₀ t marks n i₀ s i = upto - i
+μ-loop marks upto older newer s₀ t n i₀ s i = upto - i
 
 step-if-requires : tie.Need-step-if-requires Inv-loop μ-loop
 step-if-requires c κs =
-    let l = c .before .before .before .loop in
-    let b = c .before .before .before .before .before .before .before in
+    let l = c .before .before .before .before .loop in
+    let b = c .before .before .before .before .before .before .before .before in
     let h = b .pre in
     let i = l .inv in
-    let less : l .i < b .args .upto = c .before .before .loop-test .taken in
+    let less : l .i < b .args .upto = c .before .before .before .loop-test .taken in
     let p = h .places in
     let q = h .enough in
     record {
@@ -39,17 +39,18 @@ step-if-requires c κs =
 
 loop-again : tie.Need-loop-again Inv-loop μ-loop
 loop-again c =
-    let l = c .before .before .before .before .before .before .loop in
-    let b = c .before .before .before .before .before .before .before .before .before .before in
+    let l = c .before .before .before .before .before .before .before .loop in
+    let b = c .before .before .before .before .before .before .before .before .before .before .before in
     let a = b .args in
     let h = b .pre in
     let i = l .inv in
-    let st = c .before .before .step-if in
-    let less : l .i < a .upto = c .before .before .before .before .before .loop-test .taken in
+    let k = c .before .before in
+    let st = k .step-if in
+    let less : l .i < a .upto = c .before .before .before .before .before .before .loop-test .taken in
     let p = h .places in
     let q = h .enough in (
       run-more (a .upto - 1) (l .i) (omega arith) (omega arith) (omega arith) (omega arith) (st .kept .1 .0) (h .short) (h .fitting (l .i) less) (h .needs) (i .0)
-          (maybe-by (getD (a .t1 .nodes) (l .i) noNode) (a .older .now ++ a .newer .now) (sym (length-append (a .older .now) (a .newer .now))) (st .ensures)),
+          (maybe-by (getD (a .t1 .nodes) (l .i) noNode) (a .older .now ++ a .newer .now) (k .before .before .is-marked .ensures) (sym (length-append (a .older .now) (a .newer .now))) (st .ensures)),
       st .kept .1 .0 ∙ i .1,
       omega arith,
       i .3,
