@@ -1,6 +1,6 @@
 -- The third demand for C programs: they hold a session as bytes, and get an answer as one number. A list of calls of juntreak_feed and
 -- juntreak_close, on a session that juntreak_read, juntreak_simplify and juntreak_open led to, is a list of calls of crate mission.
-use Prim.Native.Nat.{ℕ, _/_, _%_, _<_}
+use Prim.Native.Nat.{ℕ, _/_, _%_}
 use mathlib.Core.Path.{_≡_}
 use mathlib.Core.Logic.{_↔_}
 use mathlib.Core.Bool.{Bool, true, false}
@@ -11,8 +11,7 @@ use Rattle.mltl.specs.Mltl.{holds, delay}
 use Rattle.table.specs.Nodes.{watchedFormula}
 use Rattle.book.specs.Entries.{Bytes}
 use Rattle.book.specs.Reading.{reading, codeOf}
-use Rattle.session.specs.declared.Session.{Session}
-use Rattle.session.specs.Session.{Effect, opening, feeding, closing}
+use Rattle.session.specs.Session.{opening, feeding, closing}
 use Rattle.flat.specs.Flat.{tableFrom, written}
 use Rattle.flat.specs.Sessions.{sessionFrom, sessionWritten}
 use Rattle.juntreak.specs.Answers.{leaves, Simplifies, Called}

@@ -1,8 +1,8 @@
 -- Each call is one of crate acts, and so is each list. Assumes nothing.
-use Prim.Native.Nat.{ℕ, _+_, _≤_, _<_, min}
+use Prim.Native.Nat.{ℕ, _+_, _≤_, min}
 use native.Mathlib.Nat.{zero-add}
 use native.Mathlib.Omega.{arith}
-use mathlib.Core.Path.{_≡_, refl, sym, ap, _∙_}
+use mathlib.Core.Path.{_≡_, refl, ap, _∙_}
 use mathlib.Core.Bool.{Bool, true, false}
 use mathlib.Core.Logic.{⊎-elim}
 use mathlib.Core.List.{List, [], _∷_, _++_, map, map-append}
@@ -13,7 +13,6 @@ use Rattle.lists.specs.Choice.{pick, first}
 use Rattle.lists.specs.Sequence.{ticks}
 use Rattle.lists.specs.Bits.{bitAt}
 use Rattle.lists.proofs.Tests.{true-or-false, _also_}
-use Rattle.mltl.specs.Mltl.{holds, delay}
 use Rattle.session.specs.declared.Session.{Session}
 use Rattle.session.specs.Session.{Effect, unfit, feeding, fed, closing, closed, feedNumber, closeNumber, keptOf, formulaOf, delayOf, feedCount, refused as unchanged}
 use Rattle.session.proofs.Effects.{words-verdicts, close-number}
@@ -23,7 +22,7 @@ use Rattle.acts.specs.Calls as acts
 use Rattle.acts.specs.Demand.{opening}
 use Rattle.acts.specs.Corollaries.{keepsRule, unchanged as unchangedRules}
 use Rattle.acts.proofs.Listed.{within}
-use Rattle.mission.specs.Calls.{Act, feed, close, effectOf, blockOf, ends, Call, Meets, numberOf, statesOf, verdictsOf, statesFed, verdictsGiven, Calls, begin, accepted, refused}
+use Rattle.mission.specs.Calls.{Act, feed, close, effectOf, blockOf, ends, Call, Meets, numberOf, statesFed, verdictsGiven, Calls, begin, accepted, refused}
 use Rattle.mission.proofs.World.{Watch, Buffers, short, tables, seenSession, seenAct, seenEffect, seenCall}
 
 -- ---- one call

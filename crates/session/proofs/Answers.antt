@@ -1,9 +1,9 @@
 -- What the parts of open, feed and close answer, put together. Assumes nothing.
-use Prim.Native.Nat.{ℕ, _+_, _-_, _/_, _≤_, _<_, min}
+use Prim.Native.Nat.{ℕ, _+_, _-_, _≤_, _<_, min}
 use native.Mathlib.Omega.{arith}
 use mathlib.Core.Path.{_≡_, refl, sym, ap, ap₂, _∙_}
 use mathlib.Core.Bool.{Bool, true, false, not, _||_}
-use mathlib.Core.List.{List, [], _∷_, _++_, append-assoc, append-nil}
+use mathlib.Core.List.{List, [], _++_, append-assoc, append-nil}
 use borrow.Author.Tests.{eq-eqb, ne-eqb, not-false, leb-false, ltb-false}
 use borrow.Rule.Slice.PartMut.{midOf, putMid}
 use lib.Dec.{ltb, leb, eqb}
@@ -11,22 +11,19 @@ use lib.ListN.{length, take, drop, replicate, length-append, length-take, length
 use lib.Seq.{take-at, drop-at, drop-drop}
 use Rattle.lists.specs.Choice.{pick, first}
 use Rattle.lists.specs.Sequence.{padded}
-use Rattle.lists.specs.Bits.{words, packed}
 use Rattle.lists.proofs.Rows.{no-row}
 use Rattle.lists.proofs.Tests.{same-test, ltb-iff, or-left, or-right}
-use Rattle.lists.proofs.Columns.{length-packed}
-use Rattle.mltl.specs.Mltl.{Formula, holds, delay}
+use Rattle.mltl.specs.Mltl.{delay}
 use Rattle.table.specs.declared.Table.{Table}
 use Rattle.table.specs.declared.RuleDelay.{RuleDelay}
-use Rattle.table.specs.Nodes.{formulaAt, ruleAt, watchedFormula}
-use Rattle.table.specs.Sound.{Sound, isSound, delayNumber, ruleDelay}
+use Rattle.table.specs.Nodes.{formulaAt, ruleAt}
+use Rattle.table.specs.Sound.{isSound, delayNumber, ruleDelay}
 use Rattle.table.proofs.Soundness.{sound-iff, watched-short}
 use Rattle.verdict.specs.Verdict.{told, cleared, ready, Judged}
 use Rattle.verdict.proofs.Answers.{ready-sound}
 use Rattle.session.specs.declared.Session.{Session}
 use Rattle.session.specs.declared.Opening.{Opening}
-use Rattle.session.specs.declared.Answer.{Answer}
-use Rattle.session.specs.Session.{Effect, noSession, opening, refused, unfit, seenLimit, delayOf, formulaOf, keptOf, withSeen, verdictWords, feedRows, feedNumber, fed, feeding, closeRows, closeNumber, closed, closing}
+use Rattle.session.specs.Session.{Effect, noSession, opening, refused, unfit, seenLimit, delayOf, withSeen, verdictWords, feedRows, feedNumber, fed, feeding, closeRows, closeNumber, closed, closing}
 use Rattle.session.specs.Ready.{Writes, Fit, Feeds, Closes}
 
 -- ---- open

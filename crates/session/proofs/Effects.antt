@@ -1,5 +1,5 @@
 -- Effects by their number: a call whose number is 0 is accepted, and any other refused. Assumes nothing.
-use Prim.Native.Nat.{ℕ, _+_, _-_, _/_, _≤_, _<_, min}
+use Prim.Native.Nat.{ℕ, _+_, _-_, _/_, _<_}
 use native.Mathlib.Omega.{arith}
 use mathlib.Core.Path.{_≡_, refl, sym, ap, _∙_}
 use mathlib.Core.Bool.{Bool, true, false}
@@ -7,10 +7,10 @@ use mathlib.Core.Logic.{⊎-elim}
 use mathlib.Core.List.{List, _++_, append-assoc}
 use borrow.Author.Tests.{eq-eqb, eqb-true, eqb-false, lt-leb}
 use lib.Dec.{eqb}
-use lib.ListN.{length, getD, take, drop, replicate, List·getD-append}
+use lib.ListN.{length, getD, drop, replicate, List·getD-append}
 use Rattle.lists.specs.Choice.{pick}
-use Rattle.lists.specs.Sequence.{ticks, padded}
-use Rattle.lists.specs.Bits.{bitAt, words, packed}
+use Rattle.lists.specs.Sequence.{ticks}
+use Rattle.lists.specs.Bits.{bitAt, packed}
 use Rattle.lists.proofs.Tests.{true-or-false}
 use Rattle.lists.proofs.Sequences.{ticks-ext}
 use Rattle.lists.proofs.Columns.{bitAt-same, length-packed, packed-in}

@@ -1,11 +1,11 @@
 -- History while it is renewed: its states are moved down, and the block's follow. Assumes nothing.
-use Prim.Native.Nat.{ℕ, zero, suc, _+_, _-_, _≤_, _<_, suc-le-suc}
-use native.Mathlib.Nat.{sub-zero, zero-sub, suc-sub-suc, zero-add}
+use Prim.Native.Nat.{ℕ, zero, suc, _+_, _-_, _≤_, _<_}
+use native.Mathlib.Nat.{sub-zero, zero-sub, suc-sub-suc}
 use native.Mathlib.Omega.{arith}
 use mathlib.Core.Path.{_≡_, refl, sym, ap, _∙_}
-use mathlib.Core.List.{List, [], _∷_, _++_, append-assoc}
-use lib.ListN.{length, getD, take, drop, length-append, length-take, length-drop}
-use lib.Seq.{take-at, drop-at, drop-drop, take-nil, drop-nil, getD-append-add, getD-drop, getD-take, ext-getD, length-take-le, drop-length}
+use mathlib.Core.List.{List, [], _∷_, _++_}
+use lib.ListN.{length, getD, take, drop, length-take, length-drop}
+use lib.Seq.{take-at, drop-at, drop-drop, take-nil, getD-append-add, getD-drop, getD-take, ext-getD, length-take-le}
 use Rattle.lists.specs.Sequence.{ticks}
 use Rattle.lists.proofs.Sequences.{length-ticks, getD-ticks}
 

@@ -3,7 +3,7 @@ use Prim.Native.Nat.{_*_, _+_, _/_, _<_, ℕ, _≤_}
 use native.Mathlib.Nat.{zero-add}
 use native.Mathlib.Numerals.{add-one}
 use native.Mathlib.Omega.{arith}
-use mathlib.Core.Bool.{_&&_, Bool, false, true, _||_}
+use mathlib.Core.Bool.{_&&_, Bool, false, true}
 use mathlib.Core.List.{_++_, List}
 use mathlib.Core.Logic.{⊎-elim}
 use mathlib.Core.Path.{refl, ap, ap₂, sym, _∙_, _≡_}

@@ -1,5 +1,4 @@
 -- `interval::largest` meets its contract: `leadingZeros 32` and the top of a number make 31 (`Laws.antt`). Assumes nothing.
-use Prim.Native.Nat.{_+_}
 use borrow.Author.Needs.{needs}
 use native.Mathlib.Omega.{arith}
 use Rattle.interval.proofs.Laws.{top-is, top-12}

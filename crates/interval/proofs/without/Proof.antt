@@ -1,6 +1,4 @@
 -- `interval::without` meets its contract. Assumes nothing.
-use mathlib.Core.Path.{_≡_}
-use Prim.Native.Nat.{_*_, _%_, _^_, _≤_}
 use native.Mathlib.Omega.{arith}
 use lib.Pow.{pow-pos}
 use Rattle.interval.specs.Parts.{top, left}

@@ -3,7 +3,7 @@ use Prim.Native.Nat.{_+_, _-_, _/_, ℕ}
 use native.Mathlib.Omega.{arith}
 use mathlib.Core.Path.{subst, _≡_}
 use borrow.Author.Needs.{needs}
-use lib.ListN.{length, length-append}
+use lib.ListN.{length-append}
 use Rattle.lists.specs.Bits.{words}
 use Rattle.verdict.proofs.Answers.{cleared-is, told-is}
 use Rattle.verdict.specs.Steps.{Needs}

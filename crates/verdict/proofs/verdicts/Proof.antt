@@ -1,5 +1,5 @@
 -- The number decides; of a call that is accepted the evaluator is ready. Assumes nothing.
-use Prim.Native.Nat.{ℕ, _<_}
+use Prim.Native.Nat.{_<_}
 use native.Mathlib.Omega.{arith}
 use mathlib.Core.Path.{sym, ap, _∙_, _≡_}
 use mathlib.Core.Bool.{Bool}

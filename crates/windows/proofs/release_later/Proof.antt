@@ -1,7 +1,7 @@
 -- `windows::release_later` meets its contract. Assumes nothing.
 use Prim.Native.Nat.{_-_, _≤_, ℕ}
 use native.Mathlib.Omega.{arith}
-use mathlib.Core.Bool.{_||_, false}
+use mathlib.Core.Bool.{_||_}
 use mathlib.Core.Path.{ap₂, sym, _∙_, _≡_}
 use borrow.Author.Needs.{needs}
 use lib.ListN.{length}

@@ -1,6 +1,6 @@
 -- `windows::until_later` meets its contract. Assumes nothing.
 use Prim.Native.Nat.{_≤_}
-use mathlib.Core.Bool.{_||_, false}
+use mathlib.Core.Bool.{_||_}
 use mathlib.Core.Path.{ap₂, sym, _∙_, _≡_}
 use borrow.Author.Needs.{needs}
 use lib.ListN.{length}

@@ -5,7 +5,7 @@ use borrow.Author.Needs.{needs}
 use lib.ListN.{length}
 use Rattle.lists.specs.Choice.{first}
 use Rattle.session.specs.Session.{unfit, closeRows, closeNumber}
-use Rattle.session.proofs.Answers.{unfit-is, fit-is, close-fits, CloseFits, closed-refused, closed-accepted}
+use Rattle.session.proofs.Answers.{unfit-is, fit-is, close-fits, closed-refused, closed-accepted}
 use Rattle.session.proofs.Session.close.Statement.{statement}
 use Rattle.session.proofs.Session.close.Tie as tie
 

@@ -5,7 +5,7 @@ use borrow.Author.Needs.{needs}
 use lib.ListN.{length}
 use Rattle.lists.specs.Choice.{first}
 use Rattle.session.specs.Session.{unfit, feedRows, feedNumber}
-use Rattle.session.proofs.Answers.{unfit-is, fit-is, feed-fits, FeedFits, fed-refused, fed-accepted}
+use Rattle.session.proofs.Answers.{unfit-is, fit-is, feed-fits, fed-refused, fed-accepted}
 use Rattle.session.proofs.Session.feed.Statement.{statement}
 use Rattle.session.proofs.Session.feed.Tie as tie
 
