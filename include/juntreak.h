@@ -21,23 +21,30 @@ extern "C" {
 
 /* Sizes in bytes. */
 #define JUNTREAK_RECORD_BYTES 12   /* one record of a book */
+#define JUNTREAK_BOOK_BYTES 3060   /* the longest book */
 #define JUNTREAK_TABLE_BYTES 546   /* a table */
 #define JUNTREAK_SESSION_BYTES 558 /* a session */
-#define JUNTREAK_PARTS_BYTES 12    /* the parts of an interval */
 
 /* Sizes in elements. A buffer may be longer. */
 #define JUNTREAK_HISTORY_WORDS 4095 /* least length of history, uint32_t */
 #define JUNTREAK_SCRATCH_WORDS 5280 /* least length of scratch, uint64_t */
 #define JUNTREAK_FEED_WORDS 16      /* least length of out for a feed, uint64_t */
 #define JUNTREAK_CLOSE_WORDS 64     /* least length of out for a close, uint64_t */
+#define JUNTREAK_REGISTER_WORDS 80  /* words of a node's register in the scratch */
 
 /* Limits. */
-#define JUNTREAK_MAX_RECORDS 255  /* records of a book, the head included */
-#define JUNTREAK_MAX_NODES 64     /* nodes of a table */
-#define JUNTREAK_MAX_RULES 8      /* rules of a table */
-#define JUNTREAK_MAX_DELAY 4095   /* delay of a node, upper limit of an interval */
-#define JUNTREAK_MAX_BLOCK 1024   /* states of one feed */
-#define JUNTREAK_MAX_STATES 5120  /* states of a whole trace */
+#define JUNTREAK_MAX_RECORDS 255     /* records of a book, the head included */
+#define JUNTREAK_MAX_NODES 64        /* nodes of a table */
+#define JUNTREAK_MAX_RULES 8         /* rules of a table */
+#define JUNTREAK_MAX_SIGNAL 31       /* the largest signal */
+#define JUNTREAK_MAX_NAME 255        /* the largest name of a rule */
+#define JUNTREAK_MAX_INTERVAL 4095   /* hi of an interval */
+#define JUNTREAK_MAX_PARTS 12        /* parts of an interval */
+#define JUNTREAK_MAX_DELAY 4095      /* delay of a node */
+#define JUNTREAK_MAX_STATE 4294967295 /* the largest state */
+#define JUNTREAK_MAX_TRACE 5120      /* states of a whole trace */
+#define JUNTREAK_MAX_BLOCK 1024      /* states of one feed */
+#define JUNTREAK_MAX_SEEN 4294967295 /* states of a session from its opening on */
 
 /* Least length of out for a whole trace of n states. */
 #define JUNTREAK_WHOLE_WORDS(n) ((n) / 64 + ((n) % 64 != 0))
@@ -58,10 +65,10 @@ enum {
     JUNTREAK_FULL = 8,     /* 65th node or 9th rule */
     JUNTREAK_LONG = 9,     /* delay above 4095 */
     JUNTREAK_NAME = 10,    /* name already used */
-    JUNTREAK_NO_RULE = 11, /* chain ended without a rule; record 0 */
+    JUNTREAK_RULELESS = 11, /* chain ended without a rule; record 0 */
     /* Tables and sessions. */
     JUNTREAK_UNSOUND = 25, /* bytes that are no sound table's or no session's */
-    JUNTREAK_RULE = 21,    /* rule number not below the rule count */
+    JUNTREAK_ABSENT = 21,  /* rule number not below the rule count */
     JUNTREAK_STATES = 22,  /* above 1024 states (feed) or 5120 (whole trace) */
     JUNTREAK_BUFFER = 23,  /* history, scratch or out too short */
     JUNTREAK_SEEN = 24     /* seen + k above 4294967295 */
@@ -136,7 +143,7 @@ uint32_t juntreak_delay(const uint8_t table[JUNTREAK_TABLE_BYTES],
  * hi - lo is the sum of 2^k - 1 over the first count numbers k, largest
  * first, and the other places are zero. */
 uint32_t juntreak_split(uint16_t lo, uint16_t hi,
-                        uint8_t parts[JUNTREAK_PARTS_BYTES]);
+                        uint8_t parts[JUNTREAK_MAX_PARTS]);
 
 /* The verdicts of a rule on a whole trace of n states, n at most 5120; bit s
  * of a state is signal s. x is the length of scratch, at least 5280; o that

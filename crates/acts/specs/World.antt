@@ -5,6 +5,8 @@ use mathlib.Core.Bool.{Bool, true}
 use mathlib.Core.List.{List, [], _∷_, _++_}
 use lib.ListN.{length, take, drop}
 use lib.Dec.{ltb, eqb}
+use Rattle.limits.specs.Limits.{maxSeen}
+use Rattle.refusals.specs.Numbers.{SEEN}
 use Rattle.lists.specs.Choice.{Row, pick, _if_, first, numbered}
 use Rattle.lists.specs.Sequence.{ticks, lastOf}
 
@@ -15,7 +17,7 @@ pub data Phase : Type 0 where
 
 -- row 24's limit
 abbrev pub limit : Phase → ℕ
-limit narrow = 4294967295
+limit narrow = maxSeen
 limit wide = 18446744073709551615
 
 -- a rule of a table, the count of states seen, and the first tick (A12)
@@ -105,7 +107,7 @@ module _ (w : World) where
   -- ---- refused calls
   -- 24: the first tick + seen + k passes the limit, k is 0 in a change and a close
   abbrev pub passed : Session (w .Rule) → ℕ → Row
-  passed s k = 24 if ltb (limit (s .phase)) (s .firstTick + s .seen + k)
+  passed s k = SEEN if ltb (limit (s .phase)) (s .firstTick + s .seen + k)
 
   abbrev pub lastRows : Act (w .Rule) (w .Source) → Session (w .Rule) → List Row
   lastRows (feed block) s = passed s (length block) ∷ []

@@ -15,7 +15,7 @@ use Rattle.book.specs.declared.Walk.{Walk}
 use Rattle.book.specs.declared.Reading.{Reading}
 use Rattle.book.specs.Entries.{entryOf, badLength, badHead}
 use Rattle.book.specs.Steps.{entered, added, begun}
-use Rattle.book.specs.Reading.{refused, accepted, unless, ruleAt, rulesIn, rules, tableOf, fault, headFault, finished, along, reading}
+use Rattle.book.specs.Reading.{refused, accepted, unless, isRuleAt, rulesIn, rules, tableOf, fault, headFault, finished, along, reading}
 use Rattle.book.specs.Keeps.{Size, Head, Linked, Along, over, on, Keeps}
 use Rattle.book.proofs.Tests.{Sized, head-clear}
 use Rattle.book.proofs.Among.{collect-length}
@@ -120,8 +120,8 @@ module _ (s : List ℕ) where
   -- the head is no rule
   pub head-no-rule : Head (entryOf s 0) → (chain : List ℕ) → length (rules s ((0 ∷ []) ++ chain)) ≡ length (rulesIn s chain)
   head-no-rule h chain =
-      let m : ruleAt s 0 ≡ false = rw (h .kind) in
-      collect-length (ruleAt s) (ruleIn s) [] (0 ∷ chain) ∙ rw m
+      let m : isRuleAt s 0 ≡ false = rw (h .kind) in
+      collect-length (isRuleAt s) (ruleIn s) [] (0 ∷ chain) ∙ rw m
 
   -- THE LAW: a book that is accepted keeps the rules
   pub accepted-keeps : reading s .number ≡ 0 → Keeps s

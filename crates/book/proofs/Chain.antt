@@ -15,7 +15,7 @@ use Rattle.table.specs.declared.Rule.{Rule}
 use Rattle.book.specs.declared.Entry.{Entry}
 use Rattle.book.specs.declared.Reading.{Reading}
 use Rattle.book.specs.Entries.{entryOf, isNode, isRule, nameOf, badLength, badHead}
-use Rattle.book.specs.Reading.{filter, nodeAt, ruleAt, nodesIn, rulesIn, nodeOf, ruleOf, collect, nodes, rules, linkFault, rows, fault, headFault, refused, accepted, unless, finished, along, reading}
+use Rattle.book.specs.Reading.{filter, isNodeAt, isRuleAt, nodesIn, rulesIn, nodeOf, ruleOf, collect, nodes, rules, linkFault, rows, fault, headFault, refused, accepted, unless, finished, along, reading}
 use Rattle.book.specs.Chain.{OnChain, head, next, Read, start, linked, then, SameRecord, SameChain, SameRead}
 use Rattle.book.proofs.Among.{collect-map}
 use Rattle.book.proofs.Stands.{nodeIn, ruleIn}
@@ -54,21 +54,21 @@ module _ (s u : List ℕ) where
   Same : ℕ → Type 0
   Same r = entryOf s r ≡ entryOf u r
 
-  node-test : (x : ℕ) → Same x → nodeAt s x ≡ nodeAt u x
+  node-test : (x : ℕ) → Same x → isNodeAt s x ≡ isNodeAt u x
   unfolding Same
   node-test x h = ap (λ (e : Entry). isNode (e .kind)) h
 
-  rule-test : (x : ℕ) → Same x → ruleAt s x ≡ ruleAt u x
+  rule-test : (x : ℕ) → Same x → isRuleAt s x ≡ isRuleAt u x
   unfolding Same
   rule-test x h = ap (λ (e : Entry). isRule (e .kind)) h
 
   -- ---- what is known of the records before is the same
   module _ (b : List ℕ) (h : All Same b) where
     nodes-in : nodesIn s b ≡ nodesIn u b
-    nodes-in = filter-same Same (nodeAt s) (nodeAt u) node-test b h
+    nodes-in = filter-same Same (isNodeAt s) (isNodeAt u) node-test b h
 
     rules-in : rulesIn s b ≡ rulesIn u b
-    rules-in = filter-same Same (ruleAt s) (ruleAt u) rule-test b h
+    rules-in = filter-same Same (isRuleAt s) (isRuleAt u) rule-test b h
 
     node-in : (x : ℕ) → Same x → nodeIn s b x ≡ nodeIn u b x
     unfolding Same
@@ -84,13 +84,13 @@ module _ (s u : List ℕ) where
 
   module _ (l : length s ≡ length u) (b : List ℕ) (h : All Same b) where
     nodes-are : nodes s b ≡ nodes u b
-    nodes-are = collect-same Same (nodeAt s) (nodeAt u) node-test (nodeIn s) (nodeIn u) node-in [] b none h
+    nodes-are = collect-same Same (isNodeAt s) (isNodeAt u) node-test (nodeIn s) (nodeIn u) node-in [] b none h
 
     rules-are : rules s b ≡ rules u b
-    rules-are = collect-same Same (ruleAt s) (ruleAt u) rule-test (ruleIn s) (ruleIn u) rule-in [] b none h
+    rules-are = collect-same Same (isRuleAt s) (isRuleAt u) rule-test (ruleIn s) (ruleIn u) rule-in [] b none h
 
     names : (t : List ℕ) → map (λ q. nameOf (entryOf t q)) (rulesIn t b) ≡ map (λ (x : Rule). x .name) (rules t b)
-    names t = sym (collect-map (ruleAt t) (ruleIn t) (λ (x : Rule). x .name) (λ q. nameOf (entryOf t q)) (λ a x. refl) [] b)
+    names t = sym (collect-map (isRuleAt t) (ruleIn t) (λ (x : Rule). x .name) (λ q. nameOf (entryOf t q)) (λ a x. refl) [] b)
 
     names-are : map (λ q. nameOf (entryOf s q)) (rulesIn s b) ≡ map (λ q. nameOf (entryOf u q)) (rulesIn u b)
     names-are = names s ∙ ap (map (λ (x : Rule). x .name)) rules-are ∙ sym (names u)

@@ -24,7 +24,7 @@ use Rattle.builder.proofs.Sound.{uses-arg}
 use Rattle.book.specs.declared.Entry.{Entry}
 use Rattle.book.specs.declared.Reading.{Reading}
 use Rattle.book.specs.Entries.{Bytes, entryOf, isNode, isRule, nameOf, usesIn}
-use Rattle.book.specs.Reading.{nodesIn, rulesIn, nodeOf, ruleOf, nodes, rules, tableOf, accepted, reading}
+use Rattle.book.specs.Reading.{isNodeAt, isRuleAt, nodesIn, rulesIn, nodeOf, ruleOf, nodes, rules, tableOf, accepted, reading}
 use Rattle.book.specs.Reading as read
 use Rattle.book.specs.Keeps.{Head, Linked, Kept, Along, over, on, Keeps}
 use Rattle.book.specs.Writing.{bytes, headEntry, nodeEntry, ruleEntry, many, after, entryFor, bookOf, Yielded}
@@ -117,7 +117,7 @@ module _ (t : Table) (z : Sound t) where
 
   -- a node more
   module _ (k : ℕ) (h : k < n) (l : Lists (suc k) k 0) where
-    is-node : read.nodeAt s (suc k) ≡ true
+    is-node : isNodeAt s (suc k) ≡ true
     is-node =
         ap (λ (x : Entry). isNode (x .kind)) (ent-node k h)
         ∙ node-iff (nodeAt t k .kind) .1 (record { low = fits k h .known; high = fits k h .node })
@@ -139,20 +139,20 @@ module _ (t : Table) (z : Sound t) where
     unfolding n
     lists-more =
         let b : k < length (t .nodes) = omega (arith, z .few-nodes, z .places) in
-        let no-rule : read.ruleAt s (suc k) ≡ false = node-no-rule (entryOf s (suc k) .kind) is-node in
+        let no-rule : isRuleAt s (suc k) ≡ false = node-no-rule (entryOf s (suc k) .kind) is-node in
         record {
-          nodes-in = rw (listed-more (λ i. i) (suc k), listed-more suc k) (filter-in (read.nodeAt s) (ups (suc k)) (suc k) is-node ∙ rw (l .nodes-in));
+          nodes-in = rw (listed-more (λ i. i) (suc k), listed-more suc k) (filter-in (isNodeAt s) (ups (suc k)) (suc k) is-node ∙ rw (l .nodes-in));
           nodes-are =
               rw (listed-more (λ i. i) (suc k))
-              (collect-in (read.nodeAt s) (nodeIn s) (ups (suc k)) (suc k) is-node ∙ rw (l .nodes-are, node-is, take-suc (t .nodes) k noNode b));
-          rules-in = rw (listed-more (λ i. i) (suc k)) (filter-out (read.ruleAt s) (ups (suc k)) (suc k) no-rule ∙ l .rules-in);
-          rules-are = rw (listed-more (λ i. i) (suc k)) (collect-out (read.ruleAt s) (ruleIn s) (ups (suc k)) (suc k) no-rule ∙ l .rules-are);
+              (collect-in (isNodeAt s) (nodeIn s) (ups (suc k)) (suc k) is-node ∙ rw (l .nodes-are, node-is, take-suc (t .nodes) k noNode b));
+          rules-in = rw (listed-more (λ i. i) (suc k)) (filter-out (isRuleAt s) (ups (suc k)) (suc k) no-rule ∙ l .rules-in);
+          rules-are = rw (listed-more (λ i. i) (suc k)) (collect-out (isRuleAt s) (ruleIn s) (ups (suc k)) (suc k) no-rule ∙ l .rules-are);
         }
 
   lists-node : (k : ℕ) → k ≤ n → Lists (suc k) k 0
   lists-node zero h =
-      let a : read.nodeAt s 0 ≡ false = rw head-kind in
-      let b : read.ruleAt s 0 ≡ false = rw head-kind in
+      let a : isNodeAt s 0 ≡ false = rw head-kind in
+      let b : isRuleAt s 0 ≡ false = rw head-kind in
       record {
         nodes-in = rw (first-up, a, listed-none suc);
         nodes-are = rw (first-up, a);
@@ -163,10 +163,10 @@ module _ (t : Table) (z : Sound t) where
 
   -- a rule more
   module _ (j : ℕ) (h : j < m) (l : Lists (suc (n + j)) n j) where
-    no-node : read.nodeAt s (suc (n + j)) ≡ false
+    no-node : isNodeAt s (suc (n + j)) ≡ false
     no-node = ap (λ (x : Entry). isNode (x .kind)) (ent-rule j h)
 
-    is-rule : read.ruleAt s (suc (n + j)) ≡ true
+    is-rule : isRuleAt s (suc (n + j)) ≡ true
     is-rule = ap (λ (x : Entry). isRule (x .kind)) (ent-rule j h)
 
     rule-is : ruleIn s (ups (suc (n + j))) (suc (n + j)) ≡ ruleAt t j
@@ -180,12 +180,12 @@ module _ (t : Table) (z : Sound t) where
         let b : j < length (t .rules) = omega (arith, z .few-rules, z .rule-places) in
         let c = suc (n + j) in
         record {
-          nodes-in = rw (listed-more (λ i. i) c) (filter-out (read.nodeAt s) (ups c) c no-node ∙ l .nodes-in);
-          nodes-are = rw (listed-more (λ i. i) c) (collect-out (read.nodeAt s) (nodeIn s) (ups c) c no-node ∙ l .nodes-are);
-          rules-in = rw (listed-more (λ i. i) c, listed-more ruleNumber j) (filter-in (read.ruleAt s) (ups c) c is-rule ∙ rw (l .rules-in));
+          nodes-in = rw (listed-more (λ i. i) c) (filter-out (isNodeAt s) (ups c) c no-node ∙ l .nodes-in);
+          nodes-are = rw (listed-more (λ i. i) c) (collect-out (isNodeAt s) (nodeIn s) (ups c) c no-node ∙ l .nodes-are);
+          rules-in = rw (listed-more (λ i. i) c, listed-more ruleNumber j) (filter-in (isRuleAt s) (ups c) c is-rule ∙ rw (l .rules-in));
           rules-are =
               rw (listed-more (λ i. i) c)
-              (collect-in (read.ruleAt s) (ruleIn s) (ups c) c is-rule ∙ rw (l .rules-are, rule-is, take-suc (t .rules) j noRule b));
+              (collect-in (isRuleAt s) (ruleIn s) (ups c) c is-rule ∙ rw (l .rules-are, rule-is, take-suc (t .rules) j noRule b));
         }
 
   lists-rule : (j : ℕ) → j ≤ m → Lists (suc (n + j)) n j
@@ -447,7 +447,7 @@ module _ (t : Table) (z : Sound t) where
           let y = z .rule (r - 1 - t .«node_count») q in
           record {
             kind = omega arith;
-            arg = omega (arith, y .byte);
+            arg = omega (arith, y .largest);
             lo = omega arith;
             hi = omega arith;
             left = omega (arith, y .watched, z .few-nodes);

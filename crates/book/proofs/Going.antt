@@ -11,7 +11,7 @@ use lib.ListN.{length, getD, set, length-set}
 use lib.Seq.{getD-set-same}
 use Rattle.lists.specs.Choice.{pick}
 use Rattle.lists.specs.Sequence.{among}
-use Rattle.builder.specs.Adding.{largestName}
+use Rattle.limits.specs.Limits.{maxName}
 use Rattle.book.specs.declared.Entry.{Entry}
 use Rattle.book.specs.declared.Walk.{Walk}
 use Rattle.book.specs.declared.Step.{Step}
@@ -79,7 +79,7 @@ module _ {s : List ℕ} {f : ℕ} {before : List ℕ} {w : Walk} {r : ℕ} (a : 
   new : among r before ≡ false
   new = not-among r before (a .next .new z)
 
-  pub fault-is : nameOf (entryOf s r) ≤ largestName → walkFault (length s) (entered w r) (entryOf s r) ≡ fault s before r
+  pub fault-is : nameOf (entryOf s r) ≤ maxName → walkFault (length s) (entered w r) (entryOf s r) ≡ fault s before r
   fault-is h = fault-same (a .stands) r byte new h
 
   one-less : unseen (added (entered w r) r (entryOf s r) .seen) + 1 ≡ unseen (w .seen)
@@ -110,8 +110,8 @@ further {s} {f} {before} {w} {r} a z n =
     }
 
 -- in a book of bytes no name is too large
-pub name-small : (s : List ℕ) (r : ℕ) {e : Entry} → e ≡ entryOf s r → ((i : ℕ) → getD s i 0 < 256) → nameOf e ≤ largestName
-name-small s r i b = let h : nameOf (entryOf s r) ≤ largestName = omega (arith, b (12 * r + 1)) in subst (λ (e : Entry). nameOf e ≤ largestName) (sym i) h
+pub name-small : (s : List ℕ) (r : ℕ) {e : Entry} → e ≡ entryOf s r → ((i : ℕ) → getD s i 0 < 256) → nameOf e ≤ maxName
+name-small s r i b = let h : nameOf (entryOf s r) ≤ maxName = omega (arith, b (12 * r + 1)) in subst (λ (e : Entry). nameOf e ≤ maxName) (sym i) h
 
 -- ---- the loop's invariant
 pub record Going (s : List ℕ) (w : Walk) (r : ℕ) : Type 0 where
@@ -140,9 +140,9 @@ module _ {s : List ℕ} {w : Walk} {r : ℕ} (g : Going s w r) where
       go (suc f) = rw (eq-eqb r 0 z)
 
   -- the record r is tried; its name is small enough
-  module _ (z : ¬ (r ≡ 0)) {v : Walk} {e : Entry} {x : Step} (i : v ≡ entered w r) (j : e ≡ entryOf s r) (b : nameOf e ≤ largestName) (k : x ≡ stepped (length s) v r e) where
+  module _ (z : ¬ (r ≡ 0)) {v : Walk} {e : Entry} {x : Step} (i : v ≡ entered w r) (j : e ≡ entryOf s r) (b : nameOf e ≤ maxName) (k : x ≡ stepped (length s) v r e) where
     found : x .number ≡ fault s (g .before) r
-    found = ap (λ (y : Step). y .number) k ∙ rw (i, j) (fault-is (g .at) z (subst (λ (y : Entry). nameOf y ≤ largestName) j b))
+    found = ap (λ (y : Step). y .number) k ∙ rw (i, j) (fault-is (g .at) z (subst (λ (y : Entry). nameOf y ≤ maxName) j b))
 
     pub stops : {y : Reading} → ¬ (x .number ≡ 0) → y ≡ refused (x .number) r → y ≡ reading s
     unfolding along

@@ -13,8 +13,9 @@ use Rattle.lists.specs.Sequence.{among}
 use Rattle.lists.proofs.Tests.{or-left, or-right, and-right, true-left, true-right, or-other, _also_}
 use Rattle.table.specs.Nodes.{delayOf, delays}
 use Rattle.book.specs.declared.Entry.{Entry}
-use Rattle.book.specs.Entries.{entryOf, usesIn, isNode, isRule, nameOf, formed, badForm, badArg, badInterval}
-use Rattle.book.specs.Reading.{nodeAt, ruleAt, nodesIn, rulesIn, nodeOf, nodes, linkFault, operandFault, countFault, delayFault, nameFault, rows}
+use Rattle.interval.specs.Parts.{badInterval}
+use Rattle.book.specs.Entries.{entryOf, usesIn, isNode, isRule, nameOf, formed, badForm, badArg}
+use Rattle.book.specs.Reading.{isNodeAt, isRuleAt, nodesIn, rulesIn, nodeOf, nodes, linkFault, operandFault, countFault, delayFault, nameFault, rows}
 use Rattle.book.specs.Keeps.{Linked, Formed, NodeKind, EarlierNode, Kept}
 use Rattle.lists.proofs.Rows.{no-row}
 use Rattle.book.proofs.Tests.{neither, or-else, not-and}
@@ -71,17 +72,17 @@ module _ (s before : List ℕ) where
   pub earlier-iff : (q : ℕ) → (among q (nodesIn s before) ≡ true) ↔ EarlierNode s before q
   earlier-iff q = (
     λ h.
-        let a : (nodeAt s q && among q before) ≡ true = sym (among-filter (nodeAt s) q before) ∙ h in
-        record { earlier = among-iff q before .0 (true-right (nodeAt s q) _ a); node = node-iff (entryOf s q .kind) .0 (true-left _ _ a) },
-    λ n. among-filter (nodeAt s) q before ∙ (node-iff (entryOf s q .kind) .1 (n .node) also among-iff q before .1 (n .earlier)),
+        let a : (isNodeAt s q && among q before) ≡ true = sym (among-filter (isNodeAt s) q before) ∙ h in
+        record { earlier = among-iff q before .0 (true-right (isNodeAt s q) _ a); node = node-iff (entryOf s q .kind) .0 (true-left _ _ a) },
+    λ n. among-filter (isNodeAt s) q before ∙ (node-iff (entryOf s q .kind) .1 (n .node) also among-iff q before .1 (n .earlier)),
   )
 
   -- among the rules before
   pub rule-among : (q : ℕ) → List·Memᴰ q before → entryOf s q .kind ≡ 11 → among q (rulesIn s before) ≡ true
-  rule-among q m k = among-filter (ruleAt s) q before ∙ (eq-eqb (entryOf s q .kind) 11 k also among-iff q before .1 m)
+  rule-among q m k = among-filter (isRuleAt s) q before ∙ (eq-eqb (entryOf s q .kind) 11 k also among-iff q before .1 m)
 
-  among-rule : (q : ℕ) → among q (rulesIn s before) ≡ true → (ruleAt s q && among q before) ≡ true
-  among-rule q h = sym (among-filter (ruleAt s) q before) ∙ h
+  among-rule : (q : ℕ) → among q (rulesIn s before) ≡ true → (isRuleAt s q && among q before) ≡ true
+  among-rule q h = sym (among-filter (isRuleAt s) q before) ∙ h
 
   pub is-linked : (passed : List ℕ) (e : Entry) → Linked s passed (e .next) → linkFault s passed e ≡ false
   is-linked passed e l =
@@ -97,7 +98,7 @@ module _ (s before : List ℕ) where
     kept h =
         let no : (i : ℕ) → getD (rows s before r e) i (0 if false) .test ≡ false = no-row (rows s before r e) refl h in
         let arg : badArg e ≡ false = no 2 in
-        let interval : badInterval e ≡ false = no 3 in
+        let interval : badInterval (e .lo) (e .hi) ≡ false = no 3 in
         let operand : operandFault ps e ≡ false = no 4 in
         let count : countFault s before e ≡ false = no 5 in
         let node : NodeKind (e .kind) → isNode (e .kind) ≡ true = node-iff (e .kind) .1 in
@@ -130,7 +131,7 @@ module _ (s before : List ℕ) where
         let arg : badArg e ≡ false =
         neither (not-and (eqb (e .kind) 1) (λ u. le-ltb 31 (e .arg) (k .signal (eqb-true (e .kind) 1 u))))
         (not-and (isRule (e .kind)) (λ u. let t = k .name (eqb-true (e .kind) 11 u) in ne-eqb (nameOf e) 0 (λ z. omega arith))) in
-        let interval : badInterval e ≡ false = neither (le-ltb (e .hi) (e .lo) (k .ordered)) (le-ltb 4095 (e .hi) (k .limited)) in
+        let interval : badInterval (e .lo) (e .hi) ≡ false = neither (le-ltb (e .hi) (e .lo) (k .ordered)) (le-ltb 4095 (e .hi) (k .limited)) in
         let operand : operandFault ps e ≡ false =
         neither (not-and (usesIn (e .kind) .left) (λ u. ap not (earlier-iff (e .left) .1 (k .left u))))
         (not-and (usesIn (e .kind) .right) (λ u. ap not (earlier-iff (e .right) .1 (k .right u)))) in
@@ -142,5 +143,5 @@ module _ (s before : List ℕ) where
         let name : nameFault s before e ≡ false =
         not-and (isRule (e .kind)) (λ u. named-none (λ x. nameOf (entryOf s x)) (nameOf e) (rulesIn s before) λ q m.
         let a = among-rule q m in
-        k .own (eqb-true (e .kind) 11 u) q (among-iff q before .0 (true-right (ruleAt s q) _ a)) (eqb-true (entryOf s q .kind) 11 (true-left _ _ a))) in
+        k .own (eqb-true (e .kind) 11 u) q (among-iff q before .0 (true-right (isRuleAt s q) _ a)) (eqb-true (entryOf s q .kind) 11 (true-left _ _ a))) in
         rw (link, form, arg, interval, operand, count, delay, name)

@@ -21,7 +21,7 @@ use Rattle.builder.proofs.Sound.{Good, good-none, good-node, good-rule, good-so
 use Rattle.book.specs.declared.Entry.{Entry}
 use Rattle.book.specs.declared.Reading.{Reading}
 use Rattle.book.specs.Entries.{Bytes, entryOf, nameOf}
-use Rattle.book.specs.Reading.{place, nodeAt, ruleAt, nodesIn, nodeOf, ruleOf, nodes, rules, tableOf, rows, fault, headFault, refused, accepted, unless, finished, along, reading}
+use Rattle.book.specs.Reading.{place, isNodeAt, isRuleAt, nodesIn, nodeOf, ruleOf, nodes, rules, tableOf, rows, fault, headFault, refused, accepted, unless, finished, along, reading}
 use Rattle.book.specs.Keeps.{Head, Kept, EarlierNode, Along, over, on}
 use Rattle.book.proofs.Tests.{other-kind, node-no-rule, node-uses, rule-uses}
 use Rattle.book.proofs.Among.{among-filter, collect-in, collect-out, collect-map, collect-length, index-lt}
@@ -41,12 +41,12 @@ byte-at s b i = ⊎-elim (b .byte i) (λ h. rw (List·getD-eq-default s 0 {n = i
 module _ (s : List ℕ) (bytes : Bytes s) (head : Head (entryOf s 0)) where
   -- record 0 is no node, so an operand that is not used has place 0
   no-head : (before : List ℕ) → among 0 (nodesIn s before) ≡ false
-  no-head before = let n : nodeAt s 0 ≡ false = rw (head .kind) in among-filter (nodeAt s) 0 before ∙ rw n
+  no-head before = let n : isNodeAt s 0 ≡ false = rw (head .kind) in among-filter (isNodeAt s) 0 before ∙ rw n
 
   begin : Good (nodes s (0 ∷ [])) (rules s (0 ∷ []))
   begin =
-      let n : nodeAt s 0 ≡ false = rw (head .kind) in
-      let m : ruleAt s 0 ≡ false = rw (head .kind) in
+      let n : isNodeAt s 0 ≡ false = rw (head .kind) in
+      let m : isRuleAt s 0 ≡ false = rw (head .kind) in
       rw (n, m) good-none
 
   module _ {before : List ℕ} {r : ℕ} (g : Good (nodes s before) (rules s before)) (k : Kept s before r (entryOf s r)) where
@@ -57,7 +57,7 @@ module _ (s : List ℕ) (bytes : Bytes s) (head : Head (entryOf s 0)) where
     ps = nodesIn s before
 
     count : length (nodes s before) ≡ length ps
-    count = collect-length (nodeAt s) (nodeIn s) [] before
+    count = collect-length (isNodeAt s) (nodeIn s) [] before
 
     operand-in : (o : ℕ) → EarlierNode s before o → place ps o < length (nodes s before)
     operand-in o h = omega (arith, place-in ps o (earlier-iff s before o .1 h), count)
@@ -79,39 +79,39 @@ module _ (s : List ℕ) (bytes : Bytes s) (head : Head (entryOf s 0)) where
           right = record { limited = rw u (λ v. operand-in (e .right) (k .right v)); unused = rw u (λ v. operand-out (e .right) (f .right v)) };
         }
 
-    more-node : nodeAt s r ≡ true → Good (nodes s (before ++ (r ∷ []))) (rules s (before ++ (r ∷ [])))
+    more-node : isNodeAt s r ≡ true → Good (nodes s (before ++ (r ∷ []))) (rules s (before ++ (r ∷ [])))
     more-node n =
         let w = node-iff (e .kind) .0 n in
-        rw (collect-in (nodeAt s) (nodeIn s) before r n, collect-out (ruleAt s) (ruleIn s) before r (node-no-rule (e .kind) n))
+        rw (collect-in (isNodeAt s) (nodeIn s) before r n, collect-out (isRuleAt s) (ruleIn s) before r (node-no-rule (e .kind) n))
         (good-node (nodes s before) (rules s before) (nodeOf ps e) g (omega (arith, k .node-room w, count)) (node-fits (w .high)) (k .delay w))
 
-    module _ (n : nodeAt s r ≡ false) where
+    module _ (n : isNodeAt s r ≡ false) where
       eleven : e .kind ≡ 11
       eleven = other-kind (e .kind) (k .formed .low) (k .formed .high) n
 
-      rule-at : ruleAt s r ≡ true
+      rule-at : isRuleAt s r ≡ true
       rule-at = eq-eqb (e .kind) 11 eleven
 
       new-name : among (nameOf e) (names (rules s before)) ≡ false
       new-name =
-          ap (among (nameOf e)) (collect-map (ruleAt s) (ruleIn s) (λ (x : Rule). x .name) (λ q. nameOf (entryOf s q)) (λ b x. refl) [] before)
-          ∙ and-right (ruleAt s r) _ (no-row (rows s before r e) refl (keeping s before r e k) 7) rule-at
+          ap (among (nameOf e)) (collect-map (isRuleAt s) (ruleIn s) (λ (x : Rule). x .name) (λ q. nameOf (entryOf s q)) (λ b x. refl) [] before)
+          ∙ and-right (isRuleAt s r) _ (no-row (rows s before r e) refl (keeping s before r e k) 7) rule-at
 
       more-rule : Good (nodes s (before ++ (r ∷ []))) (rules s (before ++ (r ∷ [])))
       more-rule =
-          rw (collect-out (nodeAt s) (nodeIn s) before r n, collect-in (ruleAt s) (ruleIn s) before r rule-at)
-          (good-rule (nodes s before) (rules s before) (ruleOf ps e) g (omega (arith, k .rule-room eleven, collect-length (ruleAt s) (ruleIn s) [] before))
+          rw (collect-out (isNodeAt s) (nodeIn s) before r n, collect-in (isRuleAt s) (ruleIn s) before r rule-at)
+          (good-rule (nodes s before) (rules s before) (ruleOf ps e) g (omega (arith, k .rule-room eleven, collect-length (isRuleAt s) (ruleIn s) [] before))
           (record {
             named = k .name eleven;
-            byte = name-small s r refl (byte-at s bytes);
+            largest = name-small s r refl (byte-at s bytes);
             watched = operand-in (e .left) (k .left (ap (λ (u : Uses). u .left) (rule-uses (e .kind) eleven)));
           })
           new-name)
 
     more : Good (nodes s (before ++ (r ∷ []))) (rules s (before ++ (r ∷ [])))
-    more = go (nodeAt s r) refl
+    more = go (isNodeAt s r) refl
       where
-        go : (b : Bool) → nodeAt s r ≡ b → Good (nodes s (before ++ (r ∷ []))) (rules s (before ++ (r ∷ [])))
+        go : (b : Bool) → isNodeAt s r ≡ b → Good (nodes s (before ++ (r ∷ []))) (rules s (before ++ (r ∷ [])))
         go true n = more-node n
         go false n = more-rule n
 

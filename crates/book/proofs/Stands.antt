@@ -17,14 +17,16 @@ use Rattle.table.specs.Nodes.{noNode, opOf, usesOf, delayOf, delays}
 use Rattle.table.specs.declared.Node.{Node}
 use Rattle.table.specs.declared.Rule.{Rule}
 use Rattle.table.specs.declared.Table.{Table}
-use Rattle.builder.specs.Adding.{badSignal, badOperand, tooLong, addNodeRows, largestName, badName, nameUsed, addRuleRows, withNode, withRule}
+use Rattle.builder.specs.Adding.{badSignal, badOperand, tooLong, addNodeRows, badName, nameUsed, addRuleRows, withNode, withRule}
 use Rattle.builder.specs.Built.{tableHolding}
 use Rattle.builder.proofs.Holding.{delay-held, name-held, node-held, rule-held}
 use Rattle.book.specs.declared.Entry.{Entry}
 use Rattle.book.specs.declared.Walk.{Walk}
-use Rattle.book.specs.Entries.{entryOf, usesIn, nameOf, formed, badForm, badArg, badInterval, badLength, badHead}
+use Rattle.limits.specs.Limits.{maxName}
+use Rattle.interval.specs.Parts.{badInterval}
+use Rattle.book.specs.Entries.{entryOf, usesIn, nameOf, formed, badForm, badArg, badLength, badHead}
 use Rattle.book.specs.Steps.{seenAt, entered, noPlace, placeBy, nodeBy, ruleBy, nodeAdded, ruleAdded, added, badLink, builderRows, walkFault, begun, ended}
-use Rattle.book.specs.Reading.{index, place, nodeAt, ruleAt, nodesIn, rulesIn, nodeOf, ruleOf, nodes, rules, linkFault, operandFault, countFault, delayFault, nameFault, rows, fault, headFault, finished}
+use Rattle.book.specs.Reading.{index, place, isNodeAt, isRuleAt, nodesIn, rulesIn, nodeOf, ruleOf, nodes, rules, linkFault, operandFault, countFault, delayFault, nameFault, rows, fault, headFault, finished}
 use Rattle.book.specs.Keeps.{Kept}
 use Rattle.book.proofs.Tests.{other-kind, node-no-rule, node-uses, rule-uses, row-same, row-none}
 use Rattle.book.proofs.Among.{eqb-suc, among-snoc, among-filter, filter-in, filter-out, collect-in, collect-out, collect-map, collect-length, index-old, index-new, index-lt}
@@ -44,7 +46,7 @@ tableBefore s before = tableHolding (nodes s before) (rules s before)
 -- the rows of a record from 5 on
 abbrev laterRows : List ℕ → List ℕ → Entry → List Row
 laterRows s before e =
-    (5 if badArg e) ∷ (6 if badInterval e) ∷ (7 if operandFault (nodesIn s before) e) ∷
+    (5 if badArg e) ∷ (6 if badInterval (e .lo) (e .hi)) ∷ (7 if operandFault (nodesIn s before) e) ∷
     (8 if countFault s before e) ∷ (9 if delayFault s before e) ∷ (10 if nameFault s before e) ∷ []
 
 -- what the walk has seen of the record k
@@ -94,8 +96,8 @@ operand-place false false i h = refl
 operand-place true false i h = absurd (true≢false h)
 
 -- a name that is small enough is bad where it is 0
-name-test : (n : ℕ) → n ≤ largestName → (eqb n 0 || ltb largestName n) ≡ eqb n 0
-name-test n h = rw (le-ltb largestName n h) (or-false (eqb n 0))
+name-test : (n : ℕ) → n ≤ maxName → (eqb n 0 || ltb maxName n) ≡ eqb n 0
+name-test n h = rw (le-ltb maxName n h) (or-false (eqb n 0))
 
 module _ {s before : List ℕ} {w : Walk} (t : Stands s before w) (r : ℕ) (b : r < 256) (new : among r before ≡ false) where
   abbrev e : Entry
@@ -105,7 +107,7 @@ module _ {s before : List ℕ} {w : Walk} (t : Stands s before w) (r : ℕ) (b :
   ps = nodesIn s before
 
   no-node-passed : (k : ℕ) → among k before ≡ false → among k ps ≡ false
-  no-node-passed k h = among-filter (nodeAt s) k before ∙ rw h (and-false (nodeAt s k))
+  no-node-passed k h = among-filter (isNodeAt s) k before ∙ rw h (and-false (isNodeAt s k))
 
   new-node : among r ps ≡ false
   new-node = no-node-passed r new
@@ -134,15 +136,15 @@ module _ {s before : List ℕ} {w : Walk} (t : Stands s before w) (r : ℕ) (b :
 
   -- ---- the counts
   node-count : w .table .«node_count» ≡ length ps
-  node-count = ap (λ (x : Table). x .«node_count») (t .table-is) ∙ collect-length (nodeAt s) (nodeIn s) [] before
+  node-count = ap (λ (x : Table). x .«node_count») (t .table-is) ∙ collect-length (isNodeAt s) (nodeIn s) [] before
 
   rule-count : w .table .«rule_count» ≡ length (rulesIn s before)
-  rule-count = ap (λ (x : Table). x .«rule_count») (t .table-is) ∙ collect-length (ruleAt s) (ruleIn s) [] before
+  rule-count = ap (λ (x : Table). x .«rule_count») (t .table-is) ∙ collect-length (isRuleAt s) (ruleIn s) [] before
 
   operand-same : (u : Bool) (k : ℕ) → (u && leb (w .table .«node_count») (placeBy (entered w r) u k)) ≡ (u && not (among k ps))
   operand-same u k =
       rw (node-count, place-entered u k)
-      (operand-test u (among k ps) (length ps) (index ps k) (omega (arith, t .few, collect-length (nodeAt s) (nodeIn s) [] before)) (index-lt ps k))
+      (operand-test u (among k ps) (length ps) (index ps k) (omega (arith, t .few, collect-length (isNodeAt s) (nodeIn s) [] before)) (index-lt ps k))
 
   operand-in : (u : Bool) (k : ℕ) → (u && not (among k ps)) ≡ false → placeBy (entered w r) u k ≡ place ps k
   operand-in u k h = place-entered u k ∙ operand-place u (among k ps) (index ps k) h
@@ -151,11 +153,11 @@ module _ {s before : List ℕ} {w : Walk} (t : Stands s before w) (r : ℕ) (b :
   pub link-same : badLink (length s) (entered w r) e ≡ linkFault s (before ++ (r ∷ [])) e
   link-same = rw (some-entered (e .next))
 
-  module _ (n : nodeAt s r ≡ true) where
+  module _ (n : isNodeAt s r ≡ true) where
     used : usesOf (opOf (e .kind)) ≡ usesIn (e .kind)
     used = node-uses (e .kind) (node-iff (e .kind) .0 n .high)
 
-    no-rule : ruleAt s r ≡ false
+    no-rule : isRuleAt s r ≡ false
     no-rule = node-no-rule (e .kind) n
 
     node-same : operandFault ps e ≡ false → nodeBy (entered w r) e ≡ nodeIn s before r
@@ -186,26 +188,26 @@ module _ {s before : List ℕ} {w : Walk} (t : Stands s before w) (r : ℕ) (b :
     node-rows : first (addNodeRows (w .table) (nodeBy (entered w r) e)) ≡ first (laterRows s before e)
     node-rows =
         row-same 5 (badArg e) signal-same λ a.
-        row-same 6 (badInterval e) refl λ i.
+        row-same 6 (badInterval (e .lo) (e .hi)) refl λ i.
         row-same 7 (operandFault ps e) operands-same λ o.
         row-same 8 (countFault s before e) node-room-same λ c.
         row-same 9 (delayFault s before e) (delay-same o) λ d.
         rw no-rule
 
-  module _ (f : badForm e ≡ false) (n : nodeAt s r ≡ false) where
+  module _ (f : badForm e ≡ false) (n : isNodeAt s r ≡ false) where
     eleven : e .kind ≡ 11
     eleven = let k = formed-is e (not-false (formed e) f) in other-kind (e .kind) (k .low) (k .high) n
 
-    rule-at : ruleAt s r ≡ true
+    rule-at : isRuleAt s r ≡ true
     rule-at = eq-eqb (e .kind) 11 eleven
 
-    no-interval : badInterval e ≡ false
+    no-interval : badInterval (e .lo) (e .hi) ≡ false
     no-interval =
         let k = formed-is e (not-false (formed e) f) in
         let u : usesIn (e .kind) .interval ≡ false = rw (rule-uses (e .kind) eleven) in
         rw (k .lo u, k .hi u)
 
-    name-same : nameOf e ≤ largestName → badName (ruleBy (entered w r) e) ≡ badArg e
+    name-same : nameOf e ≤ maxName → badName (ruleBy (entered w r) e) ≡ badArg e
     name-same h = name-test (nameOf e) h ∙ rw eleven
 
     watched-same : leb (w .table .«node_count») (placeBy (entered w r) true (e .left)) ≡ operandFault ps e
@@ -218,26 +220,26 @@ module _ {s before : List ℕ} {w : Walk} (t : Stands s before w) (r : ℕ) (b :
     used-same =
         ap (λ (x : Table). nameUsed x (ruleBy (entered w r) e)) (t .table-is)
         ∙ name-held (nodes s before) (rules s before) (ruleBy (entered w r) e)
-        ∙ ap (among (nameOf e)) (collect-map (ruleAt s) (ruleIn s) (λ (x : Rule). x .name) (λ (q : ℕ). nameOf (entryOf s q)) (λ b x. refl) [] before)
+        ∙ ap (among (nameOf e)) (collect-map (isRuleAt s) (ruleIn s) (λ (x : Rule). x .name) (λ (q : ℕ). nameOf (entryOf s q)) (λ b x. refl) [] before)
         ∙ rw rule-at
 
-    rule-rows : nameOf e ≤ largestName → first (addRuleRows (w .table) (ruleBy (entered w r) e)) ≡ first (laterRows s before e)
+    rule-rows : nameOf e ≤ maxName → first (addRuleRows (w .table) (ruleBy (entered w r) e)) ≡ first (laterRows s before e)
     rule-rows h =
         row-same 5 (badArg e) (name-same h) λ a.
-        row-none 6 (badInterval e) no-interval
+        row-none 6 (badInterval (e .lo) (e .hi)) no-interval
         (row-same 7 (operandFault ps e) watched-same λ o.
         row-same 8 (countFault s before e) rule-room-same λ c.
         row-none 9 (delayFault s before e) (rw n) (row-same 10 (nameFault s before e) used-same λ u. refl))
 
-  later-same : nameOf e ≤ largestName → badForm e ≡ false → first (builderRows (entered w r) e) ≡ first (laterRows s before e)
-  later-same h f = go (nodeAt s r) refl
+  later-same : nameOf e ≤ maxName → badForm e ≡ false → first (builderRows (entered w r) e) ≡ first (laterRows s before e)
+  later-same h f = go (isNodeAt s r) refl
     where
-      go : (x : Bool) → nodeAt s r ≡ x
+      go : (x : Bool) → isNodeAt s r ≡ x
           → first (pick x (addNodeRows (w .table) (nodeBy (entered w r) e)) (addRuleRows (w .table) (ruleBy (entered w r) e))) ≡ first (laterRows s before e)
       go true n = node-rows n
       go false n = rule-rows f n h
 
-  pub fault-same : nameOf e ≤ largestName → walkFault (length s) (entered w r) e ≡ fault s before r
+  pub fault-same : nameOf e ≤ maxName → walkFault (length s) (entered w r) e ≡ fault s before r
   unfolding walkFault fault
   fault-same h =
       row-same 3 (linkFault s (before ++ (r ∷ [])) e) link-same λ l.
@@ -260,18 +262,18 @@ module _ {s before : List ℕ} {w : Walk} (t : Stands s before w) (r : ℕ) (b :
     unfolding fault
     operands = no-row (rows s before r e) refl c 4
 
-    module _ (n : nodeAt s r ≡ true) where
+    module _ (n : isNodeAt s r ≡ true) where
       nodes-in : nodesIn s after ≡ ps ++ (r ∷ [])
-      nodes-in = filter-in (nodeAt s) before r n
+      nodes-in = filter-in (isNodeAt s) before r n
 
       nodes-more : nodes s after ≡ nodes s before ++ (nodeIn s before r ∷ [])
-      nodes-more = collect-in (nodeAt s) (nodeIn s) before r n
+      nodes-more = collect-in (isNodeAt s) (nodeIn s) before r n
 
       rules-kept : rules s after ≡ rules s before
-      rules-kept = collect-out (ruleAt s) (ruleIn s) before r (no-rule n)
+      rules-kept = collect-out (isRuleAt s) (ruleIn s) before r (no-rule n)
 
       room : length (nodes s before) < 64
-      room = omega (arith, keeps .node-room (node-iff (e .kind) .0 n), collect-length (nodeAt s) (nodeIn s) [] before)
+      room = omega (arith, keeps .node-room (node-iff (e .kind) .0 n), collect-length (isNodeAt s) (nodeIn s) [] before)
 
       node-seen : (k : ℕ) → seenAt (nodeAdded (entered w r) r (entryOf s r)) k ≡ seenOf s after k
       node-seen k =
@@ -302,18 +304,18 @@ module _ {s before : List ℕ} {w : Walk} (t : Stands s before w) (r : ℕ) (b :
         few = rw nodes-more (omega (arith, room, length-snoc (nodes s before) (nodeIn s before r) noNode));
       }
 
-    module _ (n : nodeAt s r ≡ false) where
+    module _ (n : isNodeAt s r ≡ false) where
       nodes-kept-in : nodesIn s after ≡ ps
-      nodes-kept-in = filter-out (nodeAt s) before r n
+      nodes-kept-in = filter-out (isNodeAt s) before r n
 
       nodes-kept : nodes s after ≡ nodes s before
-      nodes-kept = collect-out (nodeAt s) (nodeIn s) before r n
+      nodes-kept = collect-out (isNodeAt s) (nodeIn s) before r n
 
       rules-more : rules s after ≡ rules s before ++ (ruleIn s before r ∷ [])
-      rules-more = collect-in (ruleAt s) (ruleIn s) before r (rule-at form n)
+      rules-more = collect-in (isRuleAt s) (ruleIn s) before r (rule-at form n)
 
       rule-room : length (rules s before) < 8
-      rule-room = omega (arith, keeps .rule-room (eleven form n), collect-length (ruleAt s) (ruleIn s) [] before)
+      rule-room = omega (arith, keeps .rule-room (eleven form n), collect-length (isRuleAt s) (ruleIn s) [] before)
 
       rule-same : ruleBy (entered w r) e ≡ ruleIn s before r
       rule-same =
@@ -343,9 +345,9 @@ module _ {s before : List ℕ} {w : Walk} (t : Stands s before w) (r : ℕ) (b :
       }
 
     pub added-stands : Stands s after (added (entered w r) r e)
-    added-stands = go (nodeAt s r) refl
+    added-stands = go (isNodeAt s r) refl
       where
-        go : (x : Bool) → nodeAt s r ≡ x → Stands s after (pick x (nodeAdded (entered w r) r e) (ruleAdded (entered w r) e))
+        go : (x : Bool) → isNodeAt s r ≡ x → Stands s after (pick x (nodeAdded (entered w r) r e) (ruleAdded (entered w r) e))
         go true n = node-stands n
         go false n = rule-stands n
 
@@ -366,8 +368,8 @@ head-link-same s = rw (begun-seen (entryOf s 0 .next)) (go (eqb (entryOf s 0 .ne
 
 pub begun-stands : (s : List ℕ) → entryOf s 0 .kind ≡ 0 → Stands s (0 ∷ []) begun
 begun-stands s h =
-    let n : nodeAt s 0 ≡ false = rw h in
-    let m : ruleAt s 0 ≡ false = rw h in
+    let n : isNodeAt s 0 ≡ false = rw h in
+    let m : isRuleAt s 0 ≡ false = rw h in
     record {
       seen = λ k. begun-seen k ∙ rw (n, or-false (eqb k 0));
       sized = refl;

@@ -3,6 +3,7 @@ use Prim.Native.Nat.{ℕ, _+_, _*_, _<_}
 use mathlib.Core.Path.{_≡_}
 use mathlib.Core.List.{List, [], _∷_, _++_}
 use lib.ListN.{length, getD}
+use Rattle.limits.specs.Limits.{recordBytes}
 use Rattle.book.specs.Entries.{entryOf}
 use Rattle.book.specs.Reading.{fault, headFault}
 
@@ -17,9 +18,9 @@ pub data Read (s : List ℕ) : List ℕ → ℕ → Type 0 where
   linked : headFault s ≡ 0 → Read s (0 ∷ []) (entryOf s 0 .next)
   then : {before : List ℕ} {r : ℕ} → Read s before r → ¬ (r ≡ 0) → fault s before r ≡ 0 → Read s (before ++ (r ∷ [])) (entryOf s r .next)
 
--- the 12 bytes of the record r are the same in two books
+-- the bytes of the record r are the same in two books
 pub record SameRecord (s u : List ℕ) (r : ℕ) : Type 0 where
-  pub bytes : (i : ℕ) → i < 12 → getD s (12 * r + i) 0 ≡ getD u (12 * r + i) 0
+  pub bytes : (i : ℕ) → i < recordBytes → getD s (recordBytes * r + i) 0 ≡ getD u (recordBytes * r + i) 0
 
 -- two books of one length with the same records on the chain of the first
 pub record SameChain (s u : List ℕ) : Type 0 where

@@ -5,6 +5,7 @@ use mathlib.Core.Bool.{Bool, true, false, _&&_, _||_, not}
 use mathlib.Core.List.{List}
 use lib.ListN.{getD, length}
 use lib.Dec.{ltb, leb, eqb}
+use Rattle.limits.specs.Limits.{maxSignal, recordBytes, bookBytes}
 use Rattle.lists.specs.Choice.{pick}
 use Rattle.table.specs.Nodes.{opOf, uses, usesOf}
 use Rattle.table.specs.declared.Uses.{Uses}
@@ -22,7 +23,7 @@ joined low high = low + 256 * high
 abbrev pub joinedAt : List ℕ → ℕ → ℕ
 joinedAt s i = joined (getD s i 0) (getD s (i + 1) 0)
 
--- the 12 bytes from i on: kind, argument, lo, hi, left, right, next, and three that are to be zero
+-- the bytes of a record from i on: kind, argument, lo, hi, left, right, next, and three that are to be zero
 abbrev pub entryFrom : List ℕ → ℕ → Entry
 entryFrom s i = record {
   kind = getD s i 0;
@@ -39,7 +40,7 @@ entryFrom s i = record {
 
 -- the entry of the record r
 abbrev pub entryOf : List ℕ → ℕ → Entry
-entryOf s r = entryFrom s (12 * r)
+entryOf s r = entryFrom s (recordBytes * r)
 
 -- ---- the kinds: 1 to 10 are nodes, and 11 is a rule, which uses its argument, the name, and left, what it watches
 abbrev pub isNode : ℕ → Bool
@@ -56,7 +57,7 @@ unfoldable pub usesIn : ℕ → Uses
 usesIn k = pick (isRule k) (uses true false true false) (usesOf (opOf k))
 
 -- ---- the tests of a record by itself, each true where the book is to be refused
--- 4: a kind that is not 1 to 11, or a field that is set and not used
+-- a kind that is not 1 to 11, or a field that is set and not used
 abbrev pub formedBy : Uses → Entry → Bool
 formedBy used e =
     leb 1 (e .kind) && leb (e .kind) 11 && (used .arg || eqb (e .arg) 0) && (used .interval || (eqb (e .lo) 0 && eqb (e .hi) 0))
@@ -69,20 +70,16 @@ formed e = formedBy (usesIn (e .kind)) e
 abbrev pub badForm : Entry → Bool
 badForm e = not (formed e)
 
--- 5: a signal above 31, or a name of 0
+-- a signal above the largest, or a name of 0
 abbrev pub badArg : Entry → Bool
-badArg e = (eqb (e .kind) 1 && ltb 31 (e .arg)) || (isRule (e .kind) && eqb (nameOf e) 0)
-
--- 6: lo above hi, or hi above 4,095
-abbrev pub badInterval : Entry → Bool
-badInterval e = ltb (e .hi) (e .lo) || ltb 4095 (e .hi)
+badArg e = (eqb (e .kind) 1 && ltb maxSignal (e .arg)) || (isRule (e .kind) && eqb (nameOf e) 0)
 
 -- ---- the tests of the head
--- 1: a length in bytes that is not 12 times 1 to 255
+-- a length in bytes that is not that of 1 to 255 records
 abbrev pub badLength : ℕ → Bool
-badLength n = not (eqb (n % 12) 0 && leb 12 n && leb n 3060)
+badLength n = not (eqb (n % recordBytes) 0 && leb recordBytes n && leb n bookBytes)
 
--- 2: the head has a byte set that is not its next
+-- the head has a byte set that is not its next
 abbrev pub badHead : Entry → Bool
 badHead e =
     not (eqb (e .kind) 0 && eqb (e .arg) 0 && eqb (e .lo) 0 && eqb (e .hi) 0 && eqb (e .left) 0 && eqb (e .right) 0

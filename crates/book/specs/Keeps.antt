@@ -5,6 +5,7 @@ use mathlib.Core.Path.{_≡_}
 use mathlib.Core.Bool.{true, false}
 use mathlib.Core.List.{List, [], _∷_, _++_, List·Memᴰ}
 use lib.ListN.{length}
+use Rattle.limits.specs.Limits.{maxNodes, maxRules, maxSignal, maxInterval, maxDelay, recordBytes, maxRecords}
 use Rattle.table.specs.Nodes.{delayOf, delays}
 use Rattle.book.specs.declared.Entry.{Entry}
 use Rattle.book.specs.Entries.{entryOf, usesIn, nameOf}
@@ -13,9 +14,9 @@ use Rattle.book.specs.Reading.{nodesIn, rulesIn, nodeOf, nodes}
 -- 1: 1 to 255 records of 12 bytes
 pub record Size (n : ℕ) : Type 0 where
   pub records : ℕ
-  pub bytes : n ≡ 12 * records
+  pub bytes : n ≡ recordBytes * records
   pub some : 1 ≤ records
-  pub few : records ≤ 255
+  pub few : records ≤ maxRecords
 
 -- 2: a head is all zero but its next
 pub record Head (e : Entry) : Type 0 where
@@ -31,7 +32,7 @@ pub record Head (e : Entry) : Type 0 where
 
 -- 3: next is 0, or a record of the book that is none of those passed
 pub record Linked (s passed : List ℕ) (next : ℕ) : Type 0 where
-  pub inside : ¬ (next ≡ 0) → 12 * next < length s
+  pub inside : ¬ (next ≡ 0) → recordBytes * next < length s
   pub new : ¬ (next ≡ 0) → ¬ (List·Memᴰ next passed)
 
 -- 4: a kind that is known, and no field set that it does not use
@@ -62,19 +63,19 @@ pub record Kept (s before : List ℕ) (r : ℕ) (e : Entry) : Type 0 where
   pub linked : Linked s (before ++ (r ∷ [])) (e .next)
   pub formed : Formed e
   -- 5
-  pub signal : e .kind ≡ 1 → e .arg ≤ 31
+  pub signal : e .kind ≡ 1 → e .arg ≤ maxSignal
   pub name : e .kind ≡ 11 → 1 ≤ nameOf e
   -- 6
   pub ordered : e .lo ≤ e .hi
-  pub limited : e .hi ≤ 4095
+  pub limited : e .hi ≤ maxInterval
   -- 7
   pub left : usesIn (e .kind) .left ≡ true → EarlierNode s before (e .left)
   pub right : usesIn (e .kind) .right ≡ true → EarlierNode s before (e .right)
   -- 8
-  pub node-room : NodeKind (e .kind) → length (nodesIn s before) < 64
-  pub rule-room : e .kind ≡ 11 → length (rulesIn s before) < 8
+  pub node-room : NodeKind (e .kind) → length (nodesIn s before) < maxNodes
+  pub rule-room : e .kind ≡ 11 → length (rulesIn s before) < maxRules
   -- 9
-  pub delay : NodeKind (e .kind) → delayOf (delays (nodes s before)) (nodeOf (nodesIn s before) e) ≤ 4095
+  pub delay : NodeKind (e .kind) → delayOf (delays (nodes s before)) (nodeOf (nodesIn s before) e) ≤ maxDelay
   -- 10: no earlier rule has the name
   pub own : e .kind ≡ 11 → (q : ℕ) → List·Memᴰ q before → entryOf s q .kind ≡ 11 → ¬ (nameOf (entryOf s q) ≡ nameOf e)
 

@@ -5,32 +5,35 @@ use mathlib.Core.Bool.{Bool, _&&_, _||_, not}
 use mathlib.Core.List.{List, [], _∷_, _++_, map}
 use lib.ListN.{length}
 use lib.Dec.{ltb, leb, eqb}
+use Rattle.limits.specs.Limits.{maxNodes, maxRules, maxDelay, recordBytes, maxRecords}
+use Rattle.refusals.specs.Numbers.{LENGTH, HEAD, LINK, FORM, ARGUMENT, INTERVAL, OPERAND, FULL, LONG, NAME, RULELESS}
 use Rattle.lists.specs.Choice.{Row, pick, _if_, first}
 use Rattle.lists.specs.Sequence.{among, padded}
+use Rattle.interval.specs.Parts.{badInterval}
 use Rattle.table.specs.Nodes.{noNode, noRule, noTable, delayOf, delays}
 use Rattle.table.specs.declared.Node.{Node}
 use Rattle.table.specs.declared.Rule.{Rule}
 use Rattle.table.specs.declared.Table.{Table}
 use Rattle.book.specs.declared.Entry.{Entry}
 use Rattle.book.specs.declared.Reading.{Reading}
-use Rattle.book.specs.Entries.{entryOf, usesIn, isNode, isRule, nameOf, badForm, badArg, badInterval, badLength, badHead}
+use Rattle.book.specs.Entries.{entryOf, usesIn, isNode, isRule, nameOf, badForm, badArg, badLength, badHead}
 
 -- ---- the records that are nodes, and those that are rules
 abbrev pub filter : (ℕ → Bool) → List ℕ → List ℕ
 filter p [] = []
 filter p (x ∷ xs) = pick (p x) (x ∷ filter p xs) (filter p xs)
 
-abbrev pub nodeAt : List ℕ → ℕ → Bool
-nodeAt s r = isNode (entryOf s r .kind)
+abbrev pub isNodeAt : List ℕ → ℕ → Bool
+isNodeAt s r = isNode (entryOf s r .kind)
 
-abbrev pub ruleAt : List ℕ → ℕ → Bool
-ruleAt s r = isRule (entryOf s r .kind)
+abbrev pub isRuleAt : List ℕ → ℕ → Bool
+isRuleAt s r = isRule (entryOf s r .kind)
 
 abbrev pub nodesIn : List ℕ → List ℕ → List ℕ
-nodesIn s before = filter (nodeAt s) before
+nodesIn s before = filter (isNodeAt s) before
 
 abbrev pub rulesIn : List ℕ → List ℕ → List ℕ
-rulesIn s before = filter (ruleAt s) before
+rulesIn s before = filter (isRuleAt s) before
 
 -- ---- the table: nodes in chain order, their operands as places in it; rules likewise; free places all zero
 abbrev pub index : List ℕ → ℕ → ℕ
@@ -62,51 +65,51 @@ collect p f before (r ∷ rs) =
     pick (p r) (f before r ∷ collect p f (before ++ (r ∷ [])) rs) (collect p f (before ++ (r ∷ [])) rs)
 
 abbrev pub nodes : List ℕ → List ℕ → List Node
-nodes s chain = collect (nodeAt s) (λ before r. nodeOf (nodesIn s before) (entryOf s r)) [] chain
+nodes s chain = collect (isNodeAt s) (λ before r. nodeOf (nodesIn s before) (entryOf s r)) [] chain
 
 abbrev pub rules : List ℕ → List ℕ → List Rule
-rules s chain = collect (ruleAt s) (λ before r. ruleOf (nodesIn s before) (entryOf s r)) [] chain
+rules s chain = collect (isRuleAt s) (λ before r. ruleOf (nodesIn s before) (entryOf s r)) [] chain
 
 abbrev pub tableOf : List ℕ → List ℕ → Table
 tableOf s chain = record {
-  nodes = padded noNode 64 (nodes s chain);
+  nodes = padded noNode maxNodes (nodes s chain);
   «node_count» = length (nodes s chain);
-  rules = padded noRule 8 (rules s chain);
+  rules = padded noRule maxRules (rules s chain);
   «rule_count» = length (rules s chain);
 }
 
 -- ---- the tests of an entry where it stands, each true where the book is to be refused
--- 3: next is beyond the book, or a record that is passed, the record itself among them; 0 is the end
+-- next is beyond the book, or a record that is passed, the record itself among them; 0 is the end
 abbrev pub linkFault : List ℕ → List ℕ → Entry → Bool
-linkFault s passed e = not (eqb (e .next) 0) && (leb (length s) (12 * e .next) || among (e .next) passed)
+linkFault s passed e = not (eqb (e .next) 0) && (leb (length s) (recordBytes * e .next) || among (e .next) passed)
 
--- 7: an operand, or what a rule watches, is no earlier node
+-- an operand, or what a rule watches, is no earlier node
 abbrev pub operandFault : List ℕ → Entry → Bool
 operandFault nodes e =
     (usesIn (e .kind) .left && not (among (e .left) nodes)) || (usesIn (e .kind) .right && not (among (e .right) nodes))
 
--- 8: the 65th node, or the 9th rule
+-- the 65th node, or the 9th rule
 abbrev pub countFault : List ℕ → List ℕ → Entry → Bool
 countFault s before e =
-    (isNode (e .kind) && leb 64 (length (nodesIn s before))) || (isRule (e .kind) && leb 8 (length (rulesIn s before)))
+    (isNode (e .kind) && leb maxNodes (length (nodesIn s before))) || (isRule (e .kind) && leb maxRules (length (rulesIn s before)))
 
--- 9: a node's delay is above 4,095
+-- a node's delay is above the longest
 abbrev pub delayFault : List ℕ → List ℕ → Entry → Bool
-delayFault s before e = isNode (e .kind) && ltb 4095 (delayOf (delays (nodes s before)) (nodeOf (nodesIn s before) e))
+delayFault s before e = isNode (e .kind) && ltb maxDelay (delayOf (delays (nodes s before)) (nodeOf (nodesIn s before) e))
 
--- 10: an earlier rule has the name
+-- an earlier rule has the name
 abbrev pub nameFault : List ℕ → List ℕ → Entry → Bool
 nameFault s before e = isRule (e .kind) && among (nameOf e) (map (λ q. nameOf (entryOf s q)) (rulesIn s before))
 
 -- the rows of document 01's table that can fit the record r, which holds e, and those that can fit the head
 abbrev pub rows : List ℕ → List ℕ → ℕ → Entry → List Row
 rows s before r e =
-    (3 if linkFault s (before ++ (r ∷ [])) e) ∷ (4 if badForm e) ∷ (5 if badArg e) ∷ (6 if badInterval e) ∷ (7 if operandFault (nodesIn s before) e) ∷
-    (8 if countFault s before e) ∷ (9 if delayFault s before e) ∷ (10 if nameFault s before e) ∷ []
+    (LINK if linkFault s (before ++ (r ∷ [])) e) ∷ (FORM if badForm e) ∷ (ARGUMENT if badArg e) ∷ (INTERVAL if badInterval (e .lo) (e .hi)) ∷
+    (OPERAND if operandFault (nodesIn s before) e) ∷ (FULL if countFault s before e) ∷ (LONG if delayFault s before e) ∷ (NAME if nameFault s before e) ∷ []
 
 abbrev pub headRows : List ℕ → List Row
 headRows s =
-    (1 if badLength (length s)) ∷ (2 if badHead (entryOf s 0)) ∷ (3 if linkFault s (0 ∷ []) (entryOf s 0)) ∷ []
+    (LENGTH if badLength (length s)) ∷ (HEAD if badHead (entryOf s 0)) ∷ (LINK if linkFault s (0 ∷ []) (entryOf s 0)) ∷ []
 
 -- the number of the first row that fits, or 0
 unfoldable pub fault : List ℕ → List ℕ → ℕ → ℕ
@@ -126,9 +129,9 @@ accepted t = record { number = 0; «record» = 0; table = t }
 abbrev pub unless : ℕ → ℕ → Reading → Reading
 unless n r x = pick (eqb n 0) x (refused n r)
 
--- the end of a chain: 11 where it had no rule
+-- the end of a chain, which is refused where it had no rule
 abbrev pub finished : List ℕ → List ℕ → Reading
-finished s chain = unless (first ((11 if eqb (length (rules s chain)) 0) ∷ [])) 0 (accepted (tableOf s chain))
+finished s chain = unless (first ((RULELESS if eqb (length (rules s chain)) 0) ∷ [])) 0 (accepted (tableOf s chain))
 
 -- the record r of the chain, 0 at its end, and those that it leads to; f is how many there can be
 unfoldable pub along : List ℕ → ℕ → List ℕ → ℕ → Reading
@@ -138,7 +141,7 @@ along s (suc f) before r =
     (unless (fault s before r) r (along s f (before ++ (r ∷ [])) (entryOf s r .next)))
 
 unfoldable pub reading : List ℕ → Reading
-reading s = unless (headFault s) 0 (along s 255 (0 ∷ []) (entryOf s 0 .next))
+reading s = unless (headFault s) 0 (along s maxRecords (0 ∷ []) (entryOf s 0 .next))
 
 -- a reading as one number: 0 if the book is accepted
 abbrev pub codeOf : Reading → ℕ

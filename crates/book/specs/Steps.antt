@@ -4,6 +4,8 @@ use mathlib.Core.Bool.{Bool, true, _&&_, _||_, not}
 use mathlib.Core.List.{List, [], _∷_, _++_}
 use lib.ListN.{getD, set, replicate}
 use lib.Dec.{ltb, leb, eqb}
+use Rattle.limits.specs.Limits.{recordBytes}
+use Rattle.refusals.specs.Numbers.{LINK, FORM, RULELESS}
 use Rattle.lists.specs.Choice.{Row, pick, _if_, first}
 use Rattle.table.specs.Nodes.{opOf, usesOf, noTable}
 use Rattle.table.specs.declared.Node.{Node}
@@ -56,13 +58,13 @@ ruleAdded w e = record { table = withRule (w .table) (ruleBy w e); seen = w .see
 abbrev pub added : Walk → ℕ → Entry → Walk
 added w r e = pick (isNode (e .kind)) (nodeAdded w r e) (ruleAdded w e)
 
--- ---- the rows: 3 and 4 are about the record itself, and the others those of the builder
--- 3: it links beyond a book of n bytes, or to a record that is passed; 0 is the end
+-- ---- the rows: the link and the form are about the record itself, and the others those of the builder
+-- it links beyond a book of n bytes, or to a record that is passed; 0 is the end
 abbrev pub badLink : ℕ → Walk → Entry → Bool
-badLink n w e = not (eqb (e .next) 0) && (leb n (12 * e .next) || ltb 0 (seenAt w (e .next)))
+badLink n w e = not (eqb (e .next) 0) && (leb n (recordBytes * e .next) || ltb 0 (seenAt w (e .next)))
 
 abbrev pub recordRows : ℕ → Walk → Entry → List Row
-recordRows n w e = (3 if badLink n w e) ∷ (4 if badForm e) ∷ []
+recordRows n w e = (LINK if badLink n w e) ∷ (FORM if badForm e) ∷ []
 
 abbrev pub builderRows : Walk → Entry → List Row
 builderRows w e = pick (isNode (e .kind)) (addNodeRows (w .table) (nodeBy w e)) (addRuleRows (w .table) (ruleBy w e))
@@ -88,6 +90,6 @@ stepped n w r e = stepBy (walkFault n w e) w (added w r e)
 abbrev pub begun : Walk
 begun = record { table = noTable; seen = set (replicate 256 0) 0 1 }
 
--- the end of the chain: 11 where it had no rule
+-- the end of the chain, which is refused where it had no rule
 abbrev pub ended : Walk → Reading
-ended w = unless (first ((11 if eqb (w .table .«rule_count») 0) ∷ [])) 0 (accepted (w .table))
+ended w = unless (first ((RULELESS if eqb (w .table .«rule_count») 0) ∷ [])) 0 (accepted (w .table))

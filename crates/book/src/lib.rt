@@ -1,4 +1,6 @@
 // Reads a book, document 01's term for a list of rules in records of 12 bytes, into a table.
+use limits::BOOK_BYTES;
+use limits::RECORD_BYTES;
 use table::Node;
 use table::Rule;
 use table::Table;
@@ -7,6 +9,7 @@ ghost use mathlib.Core.Path.{_≡_};
 ghost use Prim.Native.Nat.{_+_, _*_, _-_, _≤_, _<_};
 ghost use mathlib.Core.Bool.{true, false};
 ghost use lib.ListN.{length, getD};
+ghost use Rattle.limits.specs.Limits.{recordBytes};
 ghost use Rattle.lists.specs.Choice.{first};
 ghost use Rattle.book.specs.Entries.{joined, joinedAt, entryFrom, entryOf, usesIn, isNode, nameOf, formedBy, badForm, badLength, badHead};
 ghost use Rattle.book.specs.Reading.{refused, headFault, reading};
@@ -61,7 +64,7 @@ fn joined_at(s: &[u8], at: usize) -> u16
 }
 
 fn entry_from(s: &[u8], at: usize) -> Entry
-    requires { ⌜ at + 12 ≤ length (now s) ⌝ }
+    requires { ⌜ at + recordBytes ≤ length (now s) ⌝ }
     ensures { λ r. ⌜ r ≡ entryFrom (now (s .entry)) at ⌝ }
 {
     let lo = joined_at(s, at + 2);
@@ -81,10 +84,10 @@ fn entry_from(s: &[u8], at: usize) -> Entry
 }
 
 fn entry_of(s: &[u8], r: u8) -> Entry
-    requires { ⌜ 12 * r + 12 ≤ length (now s) ⌝ }
+    requires { ⌜ recordBytes * r + recordBytes ≤ length (now s) ⌝ }
     ensures { λ e. ⌜ e ≡ entryOf (now (s .entry)) r ⌝ }
 {
-    entry_from(s, 12 * (r as usize))
+    entry_from(s, RECORD_BYTES * (r as usize))
 }
 
 // The fields that a kind uses.
@@ -145,7 +148,7 @@ fn seen_at(w: Walk, r: u8) -> u8
 fn bad_link(n: usize, w: Walk, e: Entry) -> bool
     ensures { λ b. ⌜ b ≡ badLink n w e ⌝ }
 {
-    (e.next != 0) & ((n <= 12 * (e.next as usize)) | (0 < seen_at(w, e.next)))
+    (e.next != 0) & ((n <= RECORD_BYTES * (e.next as usize)) | (0 < seen_at(w, e.next)))
 }
 
 // The place of the node that a record is; of any other record 255, which is no place, or 0 where no place is asked for.
@@ -188,8 +191,8 @@ fn rule_by(w: Walk, e: Entry) -> Rule
 fn record_fault(n: usize, w: Walk, e: Entry) -> u8
     ensures { λ r. ⌜ r ≡ first (recordRows n w e) ⌝ }
 {
-    let f4 = lists::either(bad_form(e), 4, 0);
-    lists::either(bad_link(n, w, e), 3, f4)
+    let form = lists::either(bad_form(e), refusals::FORM, 0);
+    lists::either(bad_link(n, w, e), refusals::LINK, form)
 }
 
 fn enter(w: Walk, r: u8) -> Walk
@@ -277,7 +280,7 @@ fn end(w: Walk) -> Reading
 {
     let table = w.table;
     if table.rule_count == 0 {
-        refuse(11, 0)
+        refuse(refusals::RULELESS, 0)
     } else {
         Reading {
             number: 0,
@@ -290,7 +293,7 @@ fn end(w: Walk) -> Reading
 fn bad_length(n: usize) -> bool
     ensures { λ b. ⌜ b ≡ badLength n ⌝ }
 {
-    !((n % 12 == 0) & (12 <= n) & (n <= 3060))
+    !((n % RECORD_BYTES == 0) & (RECORD_BYTES <= n) & (n <= BOOK_BYTES))
 }
 
 fn bad_head(e: Entry) -> bool
@@ -311,11 +314,11 @@ fn head_fault(s: &[u8]) -> u8
     ensures { λ r. ⌜ r ≡ headFault (now (s .entry)) ⌝ }
 {
     if bad_length(s.len()) {
-        return 1;
+        return refusals::LENGTH;
     }
     let e = entry_of(s, 0);
-    let f3 = lists::either(bad_link(s.len(), begin(), e), 3, 0);
-    lists::either(bad_head(e), 2, f3)
+    let link = lists::either(bad_link(s.len(), begin(), e), refusals::LINK, 0);
+    lists::either(bad_head(e), refusals::HEAD, link)
 }
 
 // The table of a book that is accepted; or the number of the refusal, the record, and no table.

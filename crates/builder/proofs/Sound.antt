@@ -7,12 +7,14 @@ use native.Mathlib.Omega.{arith}
 use borrow.Author.Tests.{eqb-false, ltb-false, leb-false}
 use lib.Dec.{ltb, leb, eqb}
 use lib.ListN.{length, getD, replicate, List·getD-eq-default}
+use Rattle.limits.specs.Limits.{maxName}
 use Rattle.lists.specs.Choice.{_if_, first}
 use Rattle.lists.specs.Sequence.{among}
 use Rattle.lists.proofs.Tests.{and-right, or-left, or-right}
 use Rattle.lists.proofs.Rows.{no-row}
 use Rattle.lists.proofs.Sequences.{length-snoc, at-last, at-old, each-place, getD-padded, length-padded, chain-last, chain-old, chain-prefix}
 use Rattle.mltl.specs.Mltl.{const, delay}
+use Rattle.interval.specs.Parts.{badInterval}
 use Rattle.table.specs.Nodes.{opOf, usesOf, noNode, noRule, formulaOf, formulas, formulaAt, delayOf, delays}
 use Rattle.table.specs.Sound.{NodeFits, RuleFits, Sound}
 use Rattle.table.specs.declared.Node.{Node}
@@ -21,7 +23,7 @@ use Rattle.table.specs.declared.Table.{Table}
 use Rattle.table.specs.declared.Uses.{Uses}
 use Rattle.table.proofs.ByKind.{uses-by-number}
 use Rattle.table.proofs.Delays.{delay-of}
-use Rattle.builder.specs.Adding.{badSignal, badInterval, badOperand, addNodeRows, badName, addRuleRows, addingNode, addingRule}
+use Rattle.builder.specs.Adding.{badSignal, badOperand, addNodeRows, badName, addRuleRows, addingNode, addingRule}
 use Rattle.builder.specs.Built.{tableHolding, NodeForm, Built, none, node, rule}
 use Rattle.builder.proofs.Holding.{delay-held, names, name-held, node-held, rule-held, node-taken, rule-taken}
 
@@ -58,7 +60,7 @@ good-node ns rs x g room fits d = record {
       (rw (chain-last formulaOf (const false) ns x, delay-of (formulas ns) x) d);
   rule = λ i h.
       let r = g .rule i h in
-      record { named = r .named; byte = r .byte; watched = omega (arith, r .watched, length-snoc ns x noNode) };
+      record { named = r .named; largest = r .largest; watched = omega (arith, r .watched, length-snoc ns x noNode) };
   distinct = g .distinct;
 }
 
@@ -120,7 +122,7 @@ module _ (ns : List Node) (rs : List Rule) where
     pub node-fits : NodeForm x → NodeFits (length ns) x
     node-fits f =
         let signal : badSignal x ≡ false = no-node-row 0 in
-        let interval : badInterval x ≡ false = no-node-row 1 in
+        let interval : badInterval (x .lo) (x .hi) ≡ false = no-node-row 1 in
         let operand : badOperand t x ≡ false = no-node-row 2 in
         let u = usesOf (opOf (x .kind)) in
         record {
@@ -148,7 +150,7 @@ module _ (ns : List Node) (rs : List Rule) where
         let name : badName x ≡ false = no-rule-row 0 in
         record {
           named = let z = eqb-false (x .name) 0 (or-left _ _ name) in omega arith;
-          byte = ltb-false 255 (x .name) (or-right (eqb (x .name) 0) _ name);
+          largest = ltb-false maxName (x .name) (or-right (eqb (x .name) 0) _ name);
           watched = leb-false (length ns) (x .watched) (no-rule-row 1);
         }
 

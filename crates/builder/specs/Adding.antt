@@ -5,8 +5,11 @@ use mathlib.Core.Bool.{Bool, _&&_, _||_, not}
 use mathlib.Core.List.{List, [], _∷_}
 use lib.ListN.{set}
 use lib.Dec.{ltb, leb, eqb}
+use Rattle.limits.specs.Limits.{maxNodes, maxRules, maxSignal, maxName, maxDelay}
+use Rattle.refusals.specs.Numbers.{ARGUMENT, INTERVAL, OPERAND, FULL, LONG, NAME}
 use Rattle.lists.specs.Choice.{Row, pick, _if_, first}
 use Rattle.lists.specs.Sequence.{every}
+use Rattle.interval.specs.Parts.{badInterval}
 use Rattle.table.specs.Nodes.{opOf, usesOf, delayOf, delays}
 use Rattle.table.specs.Sound.{differs}
 use Rattle.table.specs.declared.Node.{Node}
@@ -15,44 +18,37 @@ use Rattle.table.specs.declared.Table.{Table}
 use Rattle.builder.specs.declared.Added.{Added}
 
 -- ---- the tests of a node, each true where it is to be refused
--- 5: a signal above 31
+-- a signal above the largest
 abbrev pub badSignal : Node → Bool
-badSignal n = eqb (n .kind) 1 && ltb 31 (n .arg)
+badSignal n = eqb (n .kind) 1 && ltb maxSignal (n .arg)
 
--- 6: lo above hi, or hi above 4,095
-abbrev pub badInterval : Node → Bool
-badInterval n = ltb (n .hi) (n .lo) || ltb 4095 (n .hi)
-
--- 7: an operand that the kind uses is no place of an earlier node
+-- an operand that the kind uses is no place of an earlier node
 abbrev pub badOperand : Table → Node → Bool
 badOperand t n =
     (usesOf (opOf (n .kind)) .left && leb (t .«node_count») (n .left)) || (usesOf (opOf (n .kind)) .right && leb (t .«node_count») (n .right))
 
--- 9: the node's delay is above 4,095
+-- the node's delay is above the longest
 abbrev pub tooLong : Table → Node → Bool
-tooLong t n = ltb 4095 (delayOf (delays (t .nodes)) n)
+tooLong t n = ltb maxDelay (delayOf (delays (t .nodes)) n)
 
--- 8 is the 65th node
 abbrev pub addNodeRows : Table → Node → List Row
 addNodeRows t n =
-    (5 if badSignal n) ∷ (6 if badInterval n) ∷ (7 if badOperand t n) ∷ (8 if leb 64 (t .«node_count»)) ∷ (9 if tooLong t n) ∷ []
+    (ARGUMENT if badSignal n) ∷ (INTERVAL if badInterval (n .lo) (n .hi)) ∷ (OPERAND if badOperand t n) ∷ (FULL if leb maxNodes (t .«node_count»)) ∷
+    (LONG if tooLong t n) ∷ []
 
 -- ---- the tests of a rule
-abbrev pub largestName : ℕ
-largestName = 255
-
--- 5: a name of 0, or above the largest
+-- a name of 0, or above the largest
 abbrev pub badName : Rule → Bool
-badName r = eqb (r .name) 0 || ltb largestName (r .name)
+badName r = eqb (r .name) 0 || ltb maxName (r .name)
 
--- 10: an earlier rule has the name
+-- an earlier rule has the name
 abbrev pub nameUsed : Table → Rule → Bool
 nameUsed t r = not (every (differs (t .«rule_count») (r .name)) 0 (t .rules))
 
--- 7: what it watches is no place of a node; 8: the 9th rule
+-- the rows; an operand of a rule is what it watches, which is to be the place of a node
 abbrev pub addRuleRows : Table → Rule → List Row
 addRuleRows t r =
-    (5 if badName r) ∷ (7 if leb (t .«node_count») (r .watched)) ∷ (8 if leb 8 (t .«rule_count»)) ∷ (10 if nameUsed t r) ∷ []
+    (ARGUMENT if badName r) ∷ (OPERAND if leb (t .«node_count») (r .watched)) ∷ (FULL if leb maxRules (t .«rule_count»)) ∷ (NAME if nameUsed t r) ∷ []
 
 -- ---- the table with one more
 abbrev pub withNode : Table → Node → Table

@@ -4,6 +4,7 @@ use mathlib.Core.Path.{_≡_}
 use mathlib.Core.Bool.{false}
 use mathlib.Core.List.{List}
 use lib.ListN.{length}
+use Rattle.limits.specs.Limits.{maxNodes, maxRules}
 use Rattle.lists.specs.Sequence.{padded}
 use Rattle.table.specs.Nodes.{opOf, usesOf, noNode, noRule, noTable}
 use Rattle.table.specs.declared.Node.{Node}
@@ -14,9 +15,9 @@ use Rattle.builder.specs.Adding.{addingNode, addingRule}
 -- the table of these nodes and these rules, its free places all zero
 abbrev pub tableHolding : List Node → List Rule → Table
 tableHolding ns rs = record {
-  nodes = padded noNode 64 ns;
+  nodes = padded noNode maxNodes ns;
   «node_count» = length ns;
-  rules = padded noRule 8 rs;
+  rules = padded noRule maxRules rs;
   «rule_count» = length rs;
 }
 

@@ -1,10 +1,15 @@
 // Builds tables: adds one node or one rule, or refuses it by document 01's rows 5 to 10.
+use limits::MAX_DELAY;
+use limits::MAX_NAME;
+use limits::MAX_NODES;
+use limits::MAX_RULES;
+use limits::MAX_SIGNAL;
 use table::Node;
 use table::Rule;
 use table::Table;
 ghost use mathlib.Core.Path.{_≡_};
 ghost use Rattle.lists.specs.Choice.{first};
-ghost use Rattle.builder.specs.Adding.{badSignal, badInterval, badOperand, tooLong, addNodeRows, badName, nameUsed, addRuleRows, addingNode, addingRule};
+ghost use Rattle.builder.specs.Adding.{badSignal, badOperand, tooLong, addNodeRows, badName, nameUsed, addRuleRows, addingNode, addingRule};
 
 // The number of a refusal, and the table as it came; or 0, and the table with the node or the rule added.
 pub struct Added {
@@ -15,13 +20,7 @@ pub struct Added {
 fn bad_signal(n: Node) -> bool
     ensures { λ b. ⌜ b ≡ badSignal n ⌝ }
 {
-    (n.kind == 1) & (31 < n.arg)
-}
-
-fn bad_interval(n: Node) -> bool
-    ensures { λ b. ⌜ b ≡ badInterval n ⌝ }
-{
-    (n.hi < n.lo) | (4095 < n.hi)
+    (n.kind == 1) & (MAX_SIGNAL < n.arg)
 }
 
 fn bad_operand(t: Table, n: Node) -> bool
@@ -35,18 +34,22 @@ fn too_long(t: Table, n: Node) -> bool
     ensures { λ b. ⌜ b ≡ tooLong t n ⌝ }
 {
     let d = table::delay_over(t, n);
-    4095 < d
+    MAX_DELAY < d
 }
 
 // The first row that fits a node, or 0.
 fn node_number(t: Table, n: Node) -> u8
     ensures { λ r. ⌜ r ≡ first (addNodeRows t n) ⌝ }
 {
-    let f9 = lists::either(too_long(t, n), 9, 0);
-    let f8 = lists::either(64 <= t.node_count, 8, f9);
-    let f7 = lists::either(bad_operand(t, n), 7, f8);
-    let f6 = lists::either(bad_interval(n), 6, f7);
-    lists::either(bad_signal(n), 5, f6)
+    let long = lists::either(too_long(t, n), refusals::LONG, 0);
+    let full = lists::either(MAX_NODES <= t.node_count, refusals::FULL, long);
+    let operand = lists::either(bad_operand(t, n), refusals::OPERAND, full);
+    let interval = lists::either(
+        interval::bad_interval(n.lo, n.hi),
+        refusals::INTERVAL,
+        operand,
+    );
+    lists::either(bad_signal(n), refusals::ARGUMENT, interval)
 }
 
 // Adds a node, whose operands are places of earlier nodes, behind the nodes of a table.
@@ -67,7 +70,7 @@ pub fn add_node(t: Table, n: Node) -> Added
 fn bad_name(r: Rule) -> bool
     ensures { λ b. ⌜ b ≡ badName r ⌝ }
 {
-    (r.name == 0) | (255 < r.name)
+    (r.name == 0) | (MAX_NAME < r.name)
 }
 
 fn name_used(t: Table, r: Rule) -> bool
@@ -81,10 +84,10 @@ fn name_used(t: Table, r: Rule) -> bool
 fn rule_number(t: Table, r: Rule) -> u8
     ensures { λ n. ⌜ n ≡ first (addRuleRows t r) ⌝ }
 {
-    let f10 = lists::either(name_used(t, r), 10, 0);
-    let f8 = lists::either(8 <= t.rule_count, 8, f10);
-    let f7 = lists::either(t.node_count <= r.watched as usize, 7, f8);
-    lists::either(bad_name(r), 5, f7)
+    let name = lists::either(name_used(t, r), refusals::NAME, 0);
+    let full = lists::either(MAX_RULES <= t.rule_count, refusals::FULL, name);
+    let operand = lists::either(t.node_count <= r.watched as usize, refusals::OPERAND, full);
+    lists::either(bad_name(r), refusals::ARGUMENT, operand)
 }
 
 // Adds a rule, which watches the place of a node, behind the rules of a table.

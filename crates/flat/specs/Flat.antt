@@ -5,6 +5,7 @@ use mathlib.Core.Bool.{Bool, _&&_}
 use mathlib.Core.List.{List, [], _∷_, _++_}
 use lib.ListN.{length, getD, drop}
 use lib.Dec.{ltb, leb, eqb}
+use Rattle.limits.specs.Limits.{maxNodes, maxRules, tableBytes}
 use Rattle.lists.specs.Choice.{pick}
 use Rattle.lists.specs.Sequence.{ticks}
 use Rattle.table.specs.Nodes.{noTable, nodeAt, ruleAt}
@@ -26,12 +27,12 @@ tableByte t j =
     pick (ltb j 2) (getD (t .«node_count» % 256 ∷ t .«rule_count» % 256 ∷ []) j 0)
     (pick (ltb j 514) (nodeByte (nodeAt t ((j - 2) / 8)) ((j - 2) % 8)) (ruleByte (ruleAt t ((j - 514) / 4)) ((j - 514) % 4)))
 
-abbrev pub tableBytes : Table → List ℕ
-tableBytes t = ticks (tableByte t) 546
+abbrev pub bytesOf : Table → List ℕ
+bytesOf t = ticks (tableByte t) tableBytes
 
 -- a buffer with the table's bytes in its first places, if it has room for them
 unfoldable pub written : Table → List ℕ → List ℕ
-written t out = pick (leb 546 (length out)) (tableBytes t ++ drop 546 out) out
+written t out = pick (leb tableBytes (length out)) (bytesOf t ++ drop tableBytes out) out
 
 -- ---- from bytes
 abbrev pub byteAt : List ℕ → ℕ → ℕ
@@ -62,8 +63,8 @@ unpadded b =
 -- bytes that are too few, or of which one behind a rule is set, are no table's: they give 'no table', which is not sound
 unfoldable pub tableFrom : List ℕ → Table
 tableFrom b =
-    pick (leb 546 (length b))
+    pick (leb tableBytes (length b))
     (pick (unpadded b)
-    (record { nodes = ticks (nodeFrom b) 64; «node_count» = byteAt b 0; rules = ticks (ruleFrom b) 8; «rule_count» = byteAt b 1 })
+    (record { nodes = ticks (nodeFrom b) maxNodes; «node_count» = byteAt b 0; rules = ticks (ruleFrom b) maxRules; «rule_count» = byteAt b 1 })
     noTable)
     noTable

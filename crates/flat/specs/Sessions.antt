@@ -4,9 +4,11 @@ use Prim.Native.Nat.{ℕ, _+_, _*_, _/_, _%_}
 use mathlib.Core.List.{List}
 use lib.Dec.{eqb}
 use lib.ListN.{getD, set}
+use Rattle.limits.specs.Limits.{tableBytes}
 use Rattle.lists.specs.Choice.{pick}
 use Rattle.table.specs.Nodes.{noTable}
 use Rattle.session.specs.declared.Session.{Session}
+use Rattle.session.specs.Session.{sessionWith}
 use Rattle.flat.specs.Flat.{tableFrom, written}
 
 -- 4 bytes from place `at` on
@@ -16,13 +18,23 @@ fourAt b at = getD b at 0 + 256 * getD b (at + 1) 0 + 65536 * getD b (at + 2) 0 
 abbrev pub putFour : List ℕ → ℕ → ℕ → List ℕ
 putFour b at x = set (set (set (set b at (x % 256)) (at + 1) (x / 256 % 256)) (at + 2) (x / 65536 % 256)) (at + 3) (x / 16777216 % 256)
 
+-- where its rule number stands, and the lower and the upper half of its count of states
+abbrev pub rulePlace : ℕ
+rulePlace = tableBytes
+
+abbrev pub seenPlace : ℕ
+seenPlace = rulePlace + 4
+
+abbrev pub upperPlace : ℕ
+upperPlace = seenPlace + 4
+
 -- a count of states above 32 bits is no session's: it gives 'no table', which is not sound
 unfoldable pub sessionFrom : List ℕ → Session
-sessionFrom b = record { table = pick (eqb (fourAt b 554) 0) (tableFrom b) noTable; rule = fourAt b 546; seen = fourAt b 550 }
+sessionFrom b = sessionWith (pick (eqb (fourAt b upperPlace) 0) (tableFrom b) noTable) (fourAt b rulePlace) (fourAt b seenPlace)
 
 unfoldable pub sessionWritten : Session → List ℕ → List ℕ
-sessionWritten s b = putFour (putFour (putFour (written (s .table) b) 546 (s .rule % 4294967296)) 550 (s .seen)) 554 0
+sessionWritten s b = putFour (putFour (putFour (written (s .table) b) rulePlace (s .rule % 4294967296)) seenPlace (s .seen)) upperPlace 0
 
 -- the bytes of a session with another count of states; its upper four bytes are zero and stay
 abbrev pub renewed : ℕ → List ℕ → List ℕ
-renewed seen b = putFour b 550 seen
+renewed seen b = putFour b seenPlace seen

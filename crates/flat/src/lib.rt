@@ -2,13 +2,25 @@
 ghost use mathlib.Core.Path.{_≡_};
 ghost use Prim.Native.Nat.{_+_, _*_, _≤_, _<_};
 ghost use lib.ListN.{length};
+ghost use Rattle.limits.specs.Limits.{maxNodes, maxRules, tableBytes, sessionBytes};
 ghost use Rattle.lists.specs.Sequence.{ticks};
 ghost use Rattle.flat.specs.Flat.{nodeByte, ruleByte, tableByte, written, pairAt, nodeFrom, ruleFrom, unpadded, tableFrom};
 ghost use Rattle.flat.specs.Sessions.{fourAt, putFour, sessionFrom, sessionWritten, renewed};
+use limits::MAX_NODES;
+use limits::MAX_RULES;
+use limits::SESSION_BYTES;
+use limits::TABLE_BYTES;
 use session::Session;
 use table::Node;
 use table::Rule;
 use table::Table;
+
+// Where a session's rule number stands, and the lower and the upper half of its count of states.
+const RULE: usize = TABLE_BYTES;
+
+const SEEN: usize = RULE + 4;
+
+const UPPER: usize = SEEN + 4;
 
 fn pair(low: u8, high: u8) -> u16
     ensures { λ r. ⌜ r ≡ low + 256 * high ⌝ }
@@ -24,7 +36,7 @@ fn pair_at(b: &[u8], at: usize) -> u16
 }
 
 fn node_from(b: &[u8], i: usize) -> Node
-    requires { ⌜ (546 ≤ length (now b)) × (i < 64) ⌝ }
+    requires { ⌜ (tableBytes ≤ length (now b)) × (i < maxNodes) ⌝ }
     ensures { λ r. ⌜ r ≡ nodeFrom (now (b .entry)) i ⌝ }
 {
     let at = 2 + 8 * i;
@@ -41,7 +53,7 @@ fn node_from(b: &[u8], i: usize) -> Node
 }
 
 fn rule_from(b: &[u8], i: usize) -> Rule
-    requires { ⌜ (546 ≤ length (now b)) × (i < 8) ⌝ }
+    requires { ⌜ (tableBytes ≤ length (now b)) × (i < maxRules) ⌝ }
     ensures { λ r. ⌜ r ≡ ruleFrom (now (b .entry)) i ⌝ }
 {
     let at = 514 + 4 * i;
@@ -74,32 +86,32 @@ fn no_rule() -> Rule
     }
 }
 
-fn nodes_from(b: &[u8]) -> [Node; 64]
-    requires { ⌜ 546 ≤ length (now b) ⌝ }
-    ensures { λ r. ⌜ r ≡ ticks (nodeFrom (now (b .entry))) 64 ⌝ }
+fn nodes_from(b: &[u8]) -> [Node; MAX_NODES]
+    requires { ⌜ tableBytes ≤ length (now b) ⌝ }
+    ensures { λ r. ⌜ r ≡ ticks (nodeFrom (now (b .entry))) maxNodes ⌝ }
 {
     let none = no_node();
-    let mut nodes = [none; 64];
-    for i in 0..64 {
+    let mut nodes = [none; MAX_NODES];
+    for i in 0..MAX_NODES {
         nodes[i] = node_from(b, i);
     }
     nodes
 }
 
-fn rules_from(b: &[u8]) -> [Rule; 8]
-    requires { ⌜ 546 ≤ length (now b) ⌝ }
-    ensures { λ r. ⌜ r ≡ ticks (ruleFrom (now (b .entry))) 8 ⌝ }
+fn rules_from(b: &[u8]) -> [Rule; MAX_RULES]
+    requires { ⌜ tableBytes ≤ length (now b) ⌝ }
+    ensures { λ r. ⌜ r ≡ ticks (ruleFrom (now (b .entry))) maxRules ⌝ }
 {
     let none = no_rule();
-    let mut rules = [none; 8];
-    for i in 0..8 {
+    let mut rules = [none; MAX_RULES];
+    for i in 0..MAX_RULES {
         rules[i] = rule_from(b, i);
     }
     rules
 }
 
 fn is_unpadded(b: &[u8]) -> bool
-    requires { ⌜ 546 ≤ length (now b) ⌝ }
+    requires { ⌜ tableBytes ≤ length (now b) ⌝ }
     ensures { λ r. ⌜ r ≡ unpadded (now (b .entry)) ⌝ }
 {
     (b[517] == 0)
@@ -116,7 +128,7 @@ fn is_unpadded(b: &[u8]) -> bool
 pub fn read_table(b: &[u8]) -> Table
     ensures { λ r. ⌜ r ≡ tableFrom (now (b .entry)) ⌝ }
 {
-    if b.len() < 546 {
+    if b.len() < TABLE_BYTES {
         return table::no_table();
     }
     if !is_unpadded(b) {
@@ -159,7 +171,7 @@ fn rule_byte(r: Rule, k: usize) -> u8
 
 // The byte of a table at place j.
 fn table_byte(t: Table, j: usize) -> u8
-    requires { ⌜ j < 546 ⌝ }
+    requires { ⌜ j < tableBytes ⌝ }
     ensures { λ r. ⌜ r ≡ tableByte t j ⌝ }
 {
     if j < 2 {
@@ -176,14 +188,14 @@ fn table_byte(t: Table, j: usize) -> u8
     rule_byte(t.rules[at], k % 4)
 }
 
-// The table's bytes, into the first 546 places of a buffer that has them.
+// The table's bytes, into the first places of a buffer that has room for them.
 pub fn write_table(t: Table, out: &mut [u8])
     ensures { λ _. ⌜ now (out .exit) ≡ written t (now (out .entry)) ⌝ }
 {
-    if out.len() < 546 {
+    if out.len() < TABLE_BYTES {
         return;
     }
-    for j in 0..546 {
+    for j in 0..TABLE_BYTES {
         let x = table_byte(t, j);
         out[j] = x;
     }
@@ -191,8 +203,8 @@ pub fn write_table(t: Table, out: &mut [u8])
 
 // ---- sessions
 
-fn four_at(b: &[u8; 558], at: usize) -> u32
-    requires { ⌜ at + 4 ≤ 558 ⌝ }
+fn four_at(b: &[u8; SESSION_BYTES], at: usize) -> u32
+    requires { ⌜ at + 4 ≤ sessionBytes ⌝ }
     ensures { λ r. ⌜ r ≡ fourAt (now (b .entry)) at ⌝ }
 {
     byte(b[at]) + 256 * byte(b[at + 1]) + 65536 * byte(b[at + 2]) + 16777216 * byte(b[at + 3])
@@ -204,8 +216,8 @@ fn byte(x: u8) -> u32
     x as u32
 }
 
-fn put_four(b: &mut [u8; 558], at: usize, x: u32)
-    requires { ⌜ at + 4 ≤ 558 ⌝ }
+fn put_four(b: &mut [u8; SESSION_BYTES], at: usize, x: u32)
+    requires { ⌜ at + 4 ≤ sessionBytes ⌝ }
     ensures { λ _. ⌜ now (b .exit) ≡ putFour (now (b .entry)) at x ⌝ }
 {
     b[at] = (x % 256) as u8;
@@ -215,36 +227,30 @@ fn put_four(b: &mut [u8; 558], at: usize, x: u32)
 }
 
 // The session that the bytes hold; over 'no table' where their count of states is above 32 bits.
-pub fn read_session(b: &[u8; 558]) -> Session
+pub fn read_session(b: &[u8; SESSION_BYTES]) -> Session
     ensures { λ r. ⌜ r ≡ sessionFrom (now (b .entry)) ⌝ }
 {
-    let rule = four_at(b, 546) as usize;
-    let seen = four_at(b, 550);
-    if four_at(b, 554) != 0 {
-        let none = table::no_table();
-        return Session {
-            table: none,
-            rule,
-            seen,
-        };
+    let rule = four_at(b, RULE) as usize;
+    let seen = four_at(b, SEEN);
+    if four_at(b, UPPER) != 0 {
+        return Session::with(table::no_table(), rule, seen);
     }
-    let table = read_table(b);
-    Session { table, rule, seen }
+    Session::with(read_table(b), rule, seen)
 }
 
 // The session's bytes.
-pub fn write_session(s: Session, b: &mut [u8; 558])
+pub fn write_session(s: Session, b: &mut [u8; SESSION_BYTES])
     ensures { λ _. ⌜ now (b .exit) ≡ sessionWritten s (now (b .entry)) ⌝ }
 {
     write_table(s.table, b);
-    put_four(b, 546, (s.rule % 4294967296) as u32);
-    put_four(b, 550, s.seen);
-    put_four(b, 554, 0);
+    put_four(b, RULE, (s.rule % 4294967296) as u32);
+    put_four(b, SEEN, s.seen);
+    put_four(b, UPPER, 0);
 }
 
 // The bytes of a session that has seen so many states; all others stay.
-pub fn write_seen(seen: u32, b: &mut [u8; 558])
+pub fn write_seen(seen: u32, b: &mut [u8; SESSION_BYTES])
     ensures { λ _. ⌜ now (b .exit) ≡ renewed seen (now (b .entry)) ⌝ }
 {
-    put_four(b, 550, seen);
+    put_four(b, SEEN, seen);
 }

@@ -6,6 +6,7 @@ use mathlib.Core.Logic.{_↔_}
 use mathlib.Core.Bool.{Bool, true, false}
 use mathlib.Core.List.{List, [], _∷_, _++_, map}
 use lib.ListN.{length}
+use Rattle.limits.specs.Limits.{tableBytes, sessionBytes}
 use Rattle.lists.specs.Choice.{someFits}
 use Rattle.mltl.specs.Mltl.{holds, delay}
 use Rattle.table.specs.Nodes.{watchedFormula}
@@ -23,7 +24,7 @@ use Rattle.mission.specs.Calls as mission
 -- what a call was given: the session's 558 bytes, history, scratch and out; its answer, and what it left in these
 pub record Lent : Type 0 where
   pub session : List ℕ
-  pub size : length session ≡ 558
+  pub size : length session ≡ sessionBytes
   pub history : List ℕ
   pub scratch : List ℕ
   pub out : List ℕ
@@ -92,7 +93,7 @@ pub record Start : Type 0 where
   -- juntreak_read
   pub read : codeOf (reading book) ≡ 0
   pub old-table : List ℕ
-  pub table-size : length old-table ≡ 546
+  pub table-size : length old-table ≡ tableBytes
   pub table : List ℕ
   pub was-read : table ≡ leaves (reading book .number) (written (reading book .table) old-table) old-table
   -- juntreak_simplify
@@ -102,7 +103,7 @@ pub record Start : Type 0 where
   pub rule : ℕ
   pub opened : 0 ≡ opening (tableFrom simple) rule .number
   pub old-session : List ℕ
-  pub session-size : length old-session ≡ 558
+  pub session-size : length old-session ≡ sessionBytes
   pub session : List ℕ
   pub was-opened : session ≡ leaves (opening (tableFrom simple) rule .number) (sessionWritten (opening (tableFrom simple) rule .session) old-session) old-session
   -- any history

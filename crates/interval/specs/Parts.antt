@@ -4,6 +4,8 @@ use mathlib.Core.Bool.{Bool, _||_}
 use mathlib.Core.List.{List, [], _∷_}
 use lib.Dec.{ltb, leb}
 use lib.ListN.{length, replicate}
+use Rattle.limits.specs.Limits.{maxInterval, maxParts}
+use Rattle.refusals.specs.Numbers.{INTERVAL}
 use Rattle.lists.specs.Choice.{pick}
 use Rattle.lists.specs.Sequence.{padded}
 use Rattle.interval.specs.declared.Splitting.{Splitting}
@@ -31,13 +33,13 @@ partsTo (suc f) (suc w) = top (suc w) ∷ partsTo f (left (suc w))
 unfoldable pub parts : ℕ → List ℕ
 parts v = partsTo v v
 
--- 6: lo above hi, or hi above 4,095
+-- an interval that is refused: lo above hi, or hi above the largest
 abbrev pub badInterval : ℕ → ℕ → Bool
-badInterval lo hi = ltb hi lo || ltb 4095 hi
+badInterval lo hi = ltb hi lo || ltb maxInterval hi
 
--- the answer for [lo, hi]: the parts, zeros up to 12 places, and the count; or the number 6 and zeros
+-- the answer for [lo, hi]: the parts, zeros up to as many places as there can be parts, and the count; or the number of the refusal and zeros
 unfoldable pub splitting : ℕ → ℕ → Splitting
 splitting lo hi =
     pick (badInterval lo hi)
-    (record { number = 6; parts = replicate 12 0; count = 0 })
-    (record { number = 0; parts = padded 0 12 (parts (hi - lo)); count = length (parts (hi - lo)) })
+    (record { number = INTERVAL; parts = replicate maxParts 0; count = 0 })
+    (record { number = 0; parts = padded 0 maxParts (parts (hi - lo)); count = length (parts (hi - lo)) })

@@ -3,39 +3,42 @@ ghost use mathlib.Core.Path.{_≡_};
 ghost use Prim.Native.Nat.{_+_, _≤_};
 ghost use lib.ListN.{length};
 ghost use lib.Seq.{sets};
-ghost use Rattle.interval.specs.Parts.{top, left, parts, splitting};
+ghost use Rattle.limits.specs.Limits.{maxInterval, maxParts};
+ghost use Rattle.interval.specs.Parts.{top, left, parts, badInterval, splitting};
+use limits::MAX_INTERVAL;
+use limits::MAX_PARTS;
 
-// The parts k in order, unused places 0, and their count; the number is 6 for an interval that is refused.
+// The parts k in order, unused places 0, and their count; the number is 0, or that of the refusal.
 pub struct Splitting {
     pub number: u8,
-    pub parts: [u8; 12],
+    pub parts: [u8; MAX_PARTS],
     pub count: usize,
 }
 
 struct Filled {
-    ks: [u8; 12],
+    ks: [u8; MAX_PARTS],
     n: usize,
 }
 
 // The largest k with 2^k - 1 at most rest: one less than the bits of rest + 1.
 fn largest(rest: u32) -> u32
-    requires { ⌜ rest ≤ 4095 ⌝ }
-    ensures { λ r. ⌜ (r ≡ top rest) × (r ≤ 12) ⌝ }
+    requires { ⌜ rest ≤ maxInterval ⌝ }
+    ensures { λ r. ⌜ (r ≡ top rest) × (r ≤ maxParts) ⌝ }
 {
     31 - u32::leading_zeros(rest + 1)
 }
 
 // What is left of rest without its largest part, that of k.
 fn without(rest: u32, k: u32) -> u32
-    requires { ⌜ (rest ≤ 4095) × (k ≡ top rest) ⌝ }
+    requires { ⌜ (rest ≤ maxInterval) × (k ≡ top rest) ⌝ }
     ensures { λ r. ⌜ r ≡ left rest ⌝ }
 {
     rest - ((1 << k) - 1)
 }
 
 // The parts of rest, written to ks from place n on.
-fn fill(rest: u32, ks: [u8; 12], n: usize) -> Filled
-    requires { ⌜ (rest ≤ 4095) × (n + length (parts rest) ≤ 12) ⌝ }
+fn fill(rest: u32, ks: [u8; MAX_PARTS], n: usize) -> Filled
+    requires { ⌜ (rest ≤ maxInterval) × (n + length (parts rest) ≤ maxParts) ⌝ }
     ensures { λ r. ⌜ (r .ks ≡ sets ks n (parts rest)) × (r .n ≡ n + length (parts rest)) ⌝ }
 {
     if rest == 0 {
@@ -47,14 +50,21 @@ fn fill(rest: u32, ks: [u8; 12], n: usize) -> Filled
     fill(without(rest, k), next, n + 1)
 }
 
-// The splitting of [lo, hi]; 6 where lo is above hi, or hi above 4,095.
+// Whether [lo, hi] is refused.
+pub fn bad_interval(lo: u16, hi: u16) -> bool
+    ensures { λ r. ⌜ r ≡ badInterval lo hi ⌝ }
+{
+    (hi < lo) | (MAX_INTERVAL < hi)
+}
+
+// The splitting of [lo, hi].
 pub fn split(lo: u16, hi: u16) -> Splitting
     ensures { λ r. ⌜ r ≡ splitting lo hi ⌝ }
 {
-    let zeros = [0u8; 12];
-    if (hi < lo) | (4095 < hi) {
+    let zeros = [0u8; MAX_PARTS];
+    if bad_interval(lo, hi) {
         return Splitting {
-            number: 6,
+            number: refusals::INTERVAL,
             parts: zeros,
             count: 0,
         };

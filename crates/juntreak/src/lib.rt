@@ -10,13 +10,16 @@ ghost use Rattle.flat.specs.Flat.{tableFrom, written};
 ghost use Rattle.flat.specs.Sessions.{sessionFrom, sessionWritten};
 ghost use Rattle.juntreak.specs.Answers.{leaves, delayAnswer, splitAnswer, Simplifies, counted, Called};
 use book::Reading;
+use limits::MAX_PARTS;
+use limits::SESSION_BYTES;
+use limits::TABLE_BYTES;
 use session::Answer;
 use session::Session;
 use table::Table;
 
 // ---- what an accepted call writes
 
-fn put_table(number: u8, t: Table, b: &mut [u8; 546])
+fn put_table(number: u8, t: Table, b: &mut [u8; TABLE_BYTES])
     ensures { λ _. ⌜ now (b .exit) ≡ leaves number (written t (now (b .entry))) (now (b .entry)) ⌝ }
 {
     if number == 0 {
@@ -24,7 +27,7 @@ fn put_table(number: u8, t: Table, b: &mut [u8; 546])
     }
 }
 
-fn put_parts(number: u8, ks: [u8; 12], parts: &mut [u8; 12])
+fn put_parts(number: u8, ks: [u8; MAX_PARTS], parts: &mut [u8; MAX_PARTS])
     ensures { λ _. ⌜ now (parts .exit) ≡ leaves number ks (now (parts .entry)) ⌝ }
 {
     if number == 0 {
@@ -32,7 +35,7 @@ fn put_parts(number: u8, ks: [u8; 12], parts: &mut [u8; 12])
     }
 }
 
-fn put_session(number: u8, s: Session, b: &mut [u8; 558])
+fn put_session(number: u8, s: Session, b: &mut [u8; SESSION_BYTES])
     ensures { λ _. ⌜ now (b .exit) ≡ leaves number (sessionWritten s (now (b .entry))) (now (b .entry)) ⌝ }
 {
     if number == 0 {
@@ -41,7 +44,7 @@ fn put_session(number: u8, s: Session, b: &mut [u8; 558])
 }
 
 // The count of states seen.
-fn put_count(r: Answer, b: &mut [u8; 558])
+fn put_count(r: Answer, b: &mut [u8; SESSION_BYTES])
     ensures { λ _. ⌜ now (b .exit) ≡ counted r (now (b .entry)) ⌝ }
 {
     if r.number == 0 {
@@ -67,7 +70,7 @@ pub extern "C" fn juntreak_check_book(book: &[u8]) -> u32
 
 // The same, with the table of a book that is accepted.
 #[no_mangle]
-pub extern "C" fn juntreak_read(book: &[u8], table: &mut [u8; 546]) -> u32
+pub extern "C" fn juntreak_read(book: &[u8], table: &mut [u8; TABLE_BYTES]) -> u32
     ensures { λ r. ⌜ (r ≡ codeOf (reading (now (book .entry)))) × (now (table .exit) ≡ leaves (reading (now (book .entry)) .number) (written (reading (now (book .entry)) .table) (now (table .entry))) (now (table .entry))) ⌝ }
 {
     let got = book::read(book);
@@ -77,7 +80,7 @@ pub extern "C" fn juntreak_read(book: &[u8], table: &mut [u8; 546]) -> u32
 
 // The delay of a rule of the table.
 #[no_mangle]
-pub extern "C" fn juntreak_delay(table: &[u8; 546], rule: u32) -> u32
+pub extern "C" fn juntreak_delay(table: &[u8; TABLE_BYTES], rule: u32) -> u32
     ensures { λ r. ⌜ r ≡ delayAnswer (ruleDelay (tableFrom (now (table .entry))) rule) ⌝ }
 {
     let t = flat::read_table(table);
@@ -87,7 +90,7 @@ pub extern "C" fn juntreak_delay(table: &[u8; 546], rule: u32) -> u32
 
 // The splitting of [lo, hi], with its parts.
 #[no_mangle]
-pub extern "C" fn juntreak_split(lo: u16, hi: u16, parts: &mut [u8; 12]) -> u32
+pub extern "C" fn juntreak_split(lo: u16, hi: u16, parts: &mut [u8; MAX_PARTS]) -> u32
     ensures { λ r. ⌜ (r ≡ splitAnswer (splitting lo hi)) × (now (parts .exit) ≡ leaves (splitting lo hi .number) (splitting lo hi .parts) (now (parts .entry))) ⌝ }
 {
     let s = interval::split(lo, hi);
@@ -99,7 +102,7 @@ pub extern "C" fn juntreak_split(lo: u16, hi: u16, parts: &mut [u8; 12]) -> u32
 // The verdicts of a rule on a whole trace.
 #[no_mangle]
 pub extern "C" fn juntreak_verdicts(
-    table: &[u8; 546],
+    table: &[u8; TABLE_BYTES],
     rule: u32,
     states: &[u32],
     scratch: &mut [u64],
@@ -113,7 +116,7 @@ pub extern "C" fn juntreak_verdicts(
 
 // The table simplified, in its place.
 #[no_mangle]
-pub extern "C" fn juntreak_simplify(table: &mut [u8; 546]) -> u32
+pub extern "C" fn juntreak_simplify(table: &mut [u8; TABLE_BYTES]) -> u32
     ensures { λ r. ⌜ Simplifies (now (table .entry)) r (now (table .exit)) ⌝ }
 {
     let t = flat::read_table(table);
@@ -126,7 +129,11 @@ pub extern "C" fn juntreak_simplify(table: &mut [u8; 546]) -> u32
 
 // A session over the table, that watches the rule.
 #[no_mangle]
-pub extern "C" fn juntreak_open(table: &[u8; 546], rule: u32, session: &mut [u8; 558]) -> u32
+pub extern "C" fn juntreak_open(
+    table: &[u8; TABLE_BYTES],
+    rule: u32,
+    session: &mut [u8; SESSION_BYTES],
+) -> u32
     ensures { λ r. ⌜ (r ≡ opening (tableFrom (now (table .entry))) rule .number) × (now (session .exit) ≡ leaves (opening (tableFrom (now (table .entry))) rule .number) (sessionWritten (opening (tableFrom (now (table .entry))) rule .session) (now (session .entry))) (now (session .entry))) ⌝ }
 {
     let t = flat::read_table(table);
@@ -138,7 +145,7 @@ pub extern "C" fn juntreak_open(table: &[u8; 546], rule: u32, session: &mut [u8;
 // The verdicts that a block of states settles.
 #[no_mangle]
 pub extern "C" fn juntreak_feed(
-    session: &mut [u8; 558],
+    session: &mut [u8; SESSION_BYTES],
     block: &[u32],
     history: &mut [u32],
     scratch: &mut [u64],
@@ -155,7 +162,7 @@ pub extern "C" fn juntreak_feed(
 // The verdicts of the states that history still holds.
 #[no_mangle]
 pub extern "C" fn juntreak_close(
-    session: &mut [u8; 558],
+    session: &mut [u8; SESSION_BYTES],
     history: &[u32],
     scratch: &mut [u64],
     out: &mut [u64],

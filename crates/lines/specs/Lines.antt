@@ -4,10 +4,15 @@ use mathlib.Core.List.{List, [], _∷_, _++_, map}
 use Prim.Native.Nat.{ℕ, zero, suc, _+_, _-_, _*_}
 use lib.Dec.{leb, ltb, eqb}
 use lib.ListN.{length}
+use Rattle.limits.specs.Limits.{maxState}
 use Rattle.lists.specs.Choice.{pick}
 use Rattle.lines.specs.declared.Line.{Line}
 use Rattle.lines.specs.declared.Scan.{Scan}
 use Rattle.lines.specs.declared.Filled.{Filled}
+
+-- the most digits of a line
+abbrev pub maxDigits : ℕ
+maxDigits = 10
 
 -- ---- what the lines of a text say
 pub data Reading : Type 0 where
@@ -33,11 +38,11 @@ abbrev pub valueFrom : ℕ → List ℕ → ℕ
 valueFrom v [] = v
 valueFrom v (b ∷ bs) = valueFrom (v * 10 + (b - 48)) bs
 
--- a line is a state if it is 1 to 10 digits of a value in 0..4294967295, with n digits of value v before these bytes
+-- a line is a state if it is 1 to 10 digits of a value in 0..maxState, with n digits of value v before these bytes
 unfoldable pub lineAfter : ℕ → ℕ → List ℕ → Reading
 lineAfter n v bs =
     pick (leb 1 (n + length bs))
-    (pick (leb (n + length bs) 10) (pick (allDigits bs) (pick (leb (valueFrom v bs) 4294967295) (state (valueFrom v bs)) bad) bad) bad)
+    (pick (leb (n + length bs) maxDigits) (pick (allDigits bs) (pick (leb (valueFrom v bs) maxState) (state (valueFrom v bs)) bad) bad) bad)
     bad
 
 abbrev pub lineOf : List ℕ → Reading
@@ -53,22 +58,22 @@ empty = record { digits = 0; value = 0 }
 
 -- a line that is no state, whatever follows
 abbrev pub noState : Line
-noState = record { digits = 11; value = 0 }
+noState = record { digits = maxDigits + 1; value = 0 }
 
 -- a line with one byte more: a digit, the tenth at most, after a value that is a state; else it is bad
 unfoldable pub withByte : Line → ℕ → Line
 withByte l b =
-    pick (ltb (l .digits) 10)
+    pick (ltb (l .digits) maxDigits)
     (pick (leb 48 b)
     (pick (leb b 57)
-    (pick (leb (l .value) 4294967295) (record { digits = l .digits + 1; value = l .value * 10 + (b - 48) }) noState)
+    (pick (leb (l .value) maxState) (record { digits = l .digits + 1; value = l .value * 10 + (b - 48) }) noState)
     noState)
     noState)
     noState
 
 -- a line that ends is a state, if it has 1 to 10 digits whose value is one
 abbrev pub isState : Line → Bool
-isState l = leb 1 (l .digits) && leb (l .digits) 10 && leb (l .value) 4294967295
+isState l = leb 1 (l .digits) && leb (l .digits) maxDigits && leb (l .value) maxState
 
 abbrev pub readingOf : Line → Reading
 readingOf l = pick (isState l) (state (l .value)) bad

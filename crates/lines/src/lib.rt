@@ -3,9 +3,15 @@ ghost use mathlib.Core.Path.{_≡_};
 ghost use Prim.Native.Nat.{_+_, _-_, _≤_};
 ghost use lib.ListN.{length, drop};
 ghost use lib.Seq.{sets};
+use limits::MAX_STATE;
 ghost use Rattle.lines.specs.Lines.{empty, withByte, isState, scanned, filling, filledFrom};
 
-// A line so far: how many digits it has, 11 where it is bad already, and their value.
+// The most digits of a line; one more stands for a line that is bad already.
+const MAX_DIGITS: u32 = 10;
+
+const BAD: u32 = MAX_DIGITS + 1;
+
+// A line so far: how many digits it has, and their value.
 pub struct Line {
     pub digits: u32,
     pub value: u64,
@@ -107,10 +113,10 @@ fn with_byte(l: Line, b: u8) -> Line
 {
     let digits = l.digits;
     let value = l.value;
-    if digits < 10 {
+    if digits < MAX_DIGITS {
         if 48 <= b {
             if b <= 57 {
-                if value <= 4294967295 {
+                if value <= MAX_STATE {
                     return Line {
                         digits: digits + 1,
                         value: value * 10 + (b as u64 - 48),
@@ -120,7 +126,7 @@ fn with_byte(l: Line, b: u8) -> Line
         }
     }
     Line {
-        digits: 11,
+        digits: BAD,
         value: 0,
     }
 }
@@ -129,5 +135,5 @@ fn with_byte(l: Line, b: u8) -> Line
 fn is_state(l: Line) -> bool
     ensures { λ r. ⌜ r ≡ isState l ⌝ }
 {
-    (1 <= l.digits) & (l.digits <= 10) & (l.value <= 4294967295)
+    (1 <= l.digits) & (l.digits <= MAX_DIGITS) & (l.value <= MAX_STATE)
 }

@@ -3,6 +3,7 @@ use Prim.Native.Nat.{ℕ, zero, suc, _+_, _*_}
 use mathlib.Core.Bool.{true, false}
 use mathlib.Core.List.{List, [], _∷_, _++_}
 use lib.ListN.{length, getD, take, replicate}
+use Rattle.limits.specs.Limits.{maxNodes, maxRules, historyWords, scratchWords, feedWords, closeWords}
 use Rattle.lists.specs.Bits.{digit}
 use Rattle.lists.specs.Sequence.{padded}
 use Rattle.mltl.specs.Mltl.{Formula, signal, const, F, G, U, R, holds}
@@ -30,9 +31,9 @@ told e kept = e .answer .count ∷ getD (e .out) 0 0 ∷ take kept (e .history)
 
 abbrev pub stream : Session → List ℕ → List ℕ → List ℕ
 stream s a b =
-    let first : Effect = feeding s a (replicate 4095 0) (replicate 5280 0) (replicate 16 0) in
-    let second : Effect = feeding (first .answer .session) b (first .history) (replicate 5280 0) (replicate 16 0) in
-    let last : Effect = closing (second .answer .session) (second .history) (replicate 5280 0) (replicate 64 0) in
+    let first : Effect = feeding s a (replicate historyWords 0) (replicate scratchWords 0) (replicate feedWords 0) in
+    let second : Effect = feeding (first .answer .session) b (first .history) (replicate scratchWords 0) (replicate feedWords 0) in
+    let last : Effect = closing (second .answer .session) (second .history) (replicate scratchWords 0) (replicate closeWords 0) in
     told first 3 ++ told second 3 ++ told last 0
 
 abbrev pub computed : Row → List ℕ
@@ -57,10 +58,10 @@ q = signal 1
 -- the table of F[1,3]p under the name 7
 abbrev pub finallyP : Table
 finallyP = record {
-  nodes = padded noNode 64
+  nodes = padded noNode maxNodes
       (record { kind = 1; arg = 0; lo = 0; hi = 0; left = 0; right = 0 } ∷ record { kind = 7; arg = 0; lo = 1; hi = 3; left = 0; right = 0 } ∷ []);
   «node_count» = 2;
-  rules = padded noRule 8 (record { name = 7; watched = 1 } ∷ []);
+  rules = padded noRule maxRules (record { name = 7; watched = 1 } ∷ []);
   «rule_count» = 1;
 }
 

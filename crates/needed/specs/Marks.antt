@@ -1,16 +1,17 @@
--- Marks of 64 places as the bits of one number: bit j is set where place j is marked. What is needed: all that is marked at first, and of
+-- Marks of the 64 places of nodes as the bits of one number: bit j is set where place j is marked. What is needed: all that is marked at first, and of
 -- each node that is needed the operands before it.
 use Prim.Native.Nat.{ℕ, suc}
 use mathlib.Core.Bool.{Bool, _&&_, _||_}
 use mathlib.Core.List.{List, [], _∷_}
 use lib.Dec.{ltb, eqb}
+use Rattle.limits.specs.Limits.{maxNodes}
 use Rattle.lists.specs.Bits.{bit, number}
 use Rattle.table.specs.Nodes.{opOf, usesOf}
 use Rattle.table.specs.declared.Node.{Node}
 
 -- the marks ms with one more at place k, if that is below 64
 abbrev pub mark : ℕ → ℕ → ℕ
-mark ms k = number 64 (λ j. bit ms j || eqb k j)
+mark ms k = number maxNodes (λ j. bit ms j || eqb k j)
 
 -- j is a place of an operand that the kind of n uses
 abbrev pub hasOperand : Node → ℕ → Bool
@@ -24,4 +25,4 @@ isNeeded f i (n ∷ ns) j = isNeeded f (suc i) ns j || (isNeeded f (suc i) ns i 
 
 -- the marks of all that is needed
 unfoldable pub needed : ℕ → List Node → ℕ
-needed seed ns = number 64 (isNeeded (bit seed) 0 ns)
+needed seed ns = number maxNodes (isNeeded (bit seed) 0 ns)

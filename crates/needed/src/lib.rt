@@ -1,8 +1,10 @@
 // Which nodes are needed: marks of 64 places as the bits of one number.
+use limits::MAX_NODES;
 use table::Node;
 ghost use mathlib.Core.Path.{_≡_};
 ghost use Prim.Native.Nat.{min};
 ghost use lib.ListN.{take};
+ghost use Rattle.limits.specs.Limits.{maxNodes};
 ghost use Rattle.lists.specs.Bits.{bit};
 ghost use Rattle.needed.specs.Marks.{mark, needed};
 ghost use Rattle.needed.specs.Steps.{markOperand, markOperands, markNode};
@@ -11,7 +13,7 @@ ghost use Rattle.needed.specs.Steps.{markOperand, markOperands, markNode
 pub fn mark(marks: u64, at: usize) -> u64
     ensures { λ r. ⌜ r ≡ mark marks at ⌝ }
 {
-    if at < 64 {
+    if at < MAX_NODES {
         return marks | 1 << at;
     }
     marks
@@ -21,7 +23,7 @@ pub fn mark(marks: u64, at: usize) -> u64
 pub fn is_marked(marks: u64, at: usize) -> bool
     ensures { λ r. ⌜ r ≡ bit marks at ⌝ }
 {
-    if at < 64 {
+    if at < MAX_NODES {
         return (marks >> at) % 2 == 1;
     }
     false
@@ -59,13 +61,13 @@ fn mark_node(marks: u64, i: usize, n: Node) -> u64
 
 // How many nodes there are, if `count` are asked for.
 fn at_most(count: usize) -> usize
-    ensures { λ r. ⌜ r ≡ min count 64 ⌝ }
+    ensures { λ r. ⌜ r ≡ min count maxNodes ⌝ }
 {
-    if count < 64 { count } else { 64 }
+    if count < MAX_NODES { count } else { MAX_NODES }
 }
 
 // The marks of all that is needed for the marked ones of the first `count` nodes, found from the last node to the first.
-pub fn needed(nodes: [Node; 64], count: usize, seed: u64) -> u64
+pub fn needed(nodes: [Node; MAX_NODES], count: usize, seed: u64) -> u64
     ensures { λ r. ⌜ r ≡ needed seed (take count nodes) ⌝ }
 {
     let mut m = seed;

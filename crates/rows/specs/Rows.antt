@@ -2,10 +2,11 @@
 use mathlib.Core.Path.{_≡_}
 use mathlib.Core.Bool.{Bool, _||_}
 use mathlib.Core.List.{List, [], _∷_, _++_}
-use Prim.Native.Nat.{ℕ, zero, suc, _+_, _/_, _%_, _^_, _≤_}
+use Prim.Native.Nat.{ℕ, zero, suc, _+_, _*_, _/_, _%_, _^_, _≤_}
 use lib.Dec.{ltb}
 use lib.ListN.{length, take}
 use lib.Seq.{sets}
+use Rattle.limits.specs.Limits.{closeWords}
 use Rattle.io.specs.Digits.{digits}
 use Rattle.lists.specs.Choice.{pick}
 use Rattle.lists.specs.Sequence.{ticks}
@@ -32,9 +33,17 @@ rowsFrom name tick (v ∷ vs) = row name tick (digit v) ++ rowsFrom name (tick +
 abbrev pub rowsOf : ℕ → ℕ → List Bool → List ℕ
 rowsOf name = rowsFrom (decimal name)
 
+-- the most rows of one text: those of a close
+abbrev pub maxRows : ℕ
+maxRows = 64 * closeWords
+
+-- the largest tick that fits its type
+abbrev pub maxTick : ℕ
+maxTick = 18446744073709551615
+
 -- the rows of the first `count` verdicts of some words; none where they would not fit
 abbrev pub fitting : ℕ → ℕ → List ℕ → ℕ → List ℕ
-fitting name tick words count = pick (ltb 4096 count || ltb 18446744073709551615 (tick + count)) [] (rowsOf name tick (ticks (bitAt words) count))
+fitting name tick words count = pick (ltb maxRows count || ltb maxTick (tick + count)) [] (rowsOf name tick (ticks (bitAt words) count))
 
 -- ---- `book NUMBER RECORD`, `bad line N`, `feed NUMBER`
 abbrev pub bookLine : ℕ → ℕ → List ℕ

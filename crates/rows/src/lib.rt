@@ -8,22 +8,26 @@ ghost use lib.Seq.{sets};
 ghost use Rattle.lists.specs.Choice.{pick};
 ghost use Rattle.lists.specs.Bits.{bitAt, digit};
 ghost use Rattle.lists.specs.Sequence.{ticks};
+use limits::CLOSE_WORDS;
 ghost use Rattle.rows.specs.Rows.{Put, decimal, rowsFrom, ended, Fronted, fitting, bookLine, badLine, feedLine};
 
-// A text has 131,072 bytes: 4,096 rows, each of 32 bytes at most.
+// The most rows of one text, each of 32 bytes at most: those of a close.
+const MAX_ROWS: usize = 64 * CLOSE_WORDS;
+
+pub const TEXT_BYTES: usize = 32 * MAX_ROWS;
 
 // Rows for `count` verdicts, the first of them that of `tick`: verdict i is bit i % 64 of word i / 64. Answers how many bytes they take, from the
-// text's start; none for more than 4,096 rows, or where the tick after the last passes 64 bits.
+// text's start; none for more rows than a text has room for, or where the tick after the last passes 64 bits.
 pub fn put_rows(
-    text: &mut [u8; 131072],
+    text: &mut [u8; TEXT_BYTES],
     name: u16,
     tick: u64,
-    words: &[u64; 64],
+    words: &[u64; CLOSE_WORDS],
     count: usize,
 ) -> usize
     ensures { λ r. ⌜ Put (now (text .entry)) 0 (fitting name tick (now (words .entry)) count) (now (text .exit)) r ⌝ }
 {
-    if (count > 4096) | (18446744073709551615 - tick < count as u64) {
+    if (count > MAX_ROWS) | (18446744073709551615 - tick < count as u64) {
         return 0;
     }
     let mut digits = [0u8; 20];
@@ -32,7 +36,7 @@ pub fn put_rows(
 }
 
 // `book NUMBER RECORD`
-pub fn put_book(text: &mut [u8; 131072], number: u8, place: u8) -> usize
+pub fn put_book(text: &mut [u8; TEXT_BYTES], number: u8, place: u8) -> usize
     ensures { λ r. ⌜ Put (now (text .entry)) 0 (bookLine number place) (now (text .exit)) r ⌝ }
 {
     let a = put(text, 0, b"book ");
@@ -43,7 +47,7 @@ pub fn put_book(text: &mut [u8; 131072], number: u8, place: u8) -> usize
 }
 
 // `bad line N`, where N is the sum of two numbers, which may pass 64 bits.
-pub fn put_bad_line(text: &mut [u8; 131072], before: u64, more: u64) -> usize
+pub fn put_bad_line(text: &mut [u8; TEXT_BYTES], before: u64, more: u64) -> usize
     ensures { λ r. ⌜ Put (now (text .entry)) 0 (badLine (before + more)) (now (text .exit)) r ⌝ }
 {
     let a = put(text, 0, b"bad line ");
@@ -52,7 +56,7 @@ pub fn put_bad_line(text: &mut [u8; 131072], before: u64, more: u64) -> usize
 }
 
 // `feed NUMBER`
-pub fn put_feed(text: &mut [u8; 131072], number: u8) -> usize
+pub fn put_feed(text: &mut [u8; TEXT_BYTES], number: u8) -> usize
     ensures { λ r. ⌜ Put (now (text .entry)) 0 (feedLine number) (now (text .exit)) r ⌝ }
 {
     let a = put(text, 0, b"feed ");

@@ -9,6 +9,7 @@ use borrow.Rule.Slice.PartMut.{midOf, putMid}
 use lib.Dec.{ltb, leb, eqb}
 use lib.ListN.{length, take, drop, replicate, length-append, length-take, length-drop}
 use lib.Seq.{take-at, drop-at, drop-drop}
+use Rattle.limits.specs.Limits.{maxSeen}
 use Rattle.lists.specs.Choice.{pick, first}
 use Rattle.lists.specs.Sequence.{padded}
 use Rattle.lists.proofs.Rows.{no-row}
@@ -23,7 +24,7 @@ use Rattle.verdict.specs.Verdict.{told, cleared, ready, Judged}
 use Rattle.verdict.proofs.Answers.{ready-sound}
 use Rattle.session.specs.declared.Session.{Session}
 use Rattle.session.specs.declared.Opening.{Opening}
-use Rattle.session.specs.Session.{Effect, noSession, opening, refused, unfit, seenLimit, delayOf, withSeen, verdictWords, feedRows, feedNumber, fed, feeding, closeRows, closeNumber, closed, closing}
+use Rattle.session.specs.Session.{Effect, noSession, opening, refused, unfit, delayOf, withSeen, verdictWords, feedRows, feedNumber, fed, feeding, closeRows, closeNumber, closed, closing}
 use Rattle.session.specs.Ready.{Writes, Fit, Feeds, Closes}
 
 -- ---- open
@@ -43,8 +44,8 @@ module _ (t : Table) (r : ℕ) {d : RuleDelay} (e : d ≡ ruleDelay t r) where
 
 -- ---- the numbers
 -- the count passes the limit
-pub over-limit : (seen k : ℕ) → seen ≤ seenLimit → ltb (seenLimit - seen) k ≡ ltb seenLimit (seen + k)
-over-limit seen k h = same-test _ _ (ltb-iff (seenLimit - seen) k) (ltb-iff seenLimit (seen + k)) (λ l. omega arith) (λ l. omega arith)
+pub over-limit : (seen k : ℕ) → seen ≤ maxSeen → ltb (maxSeen - seen) k ≡ ltb maxSeen (seen + k)
+over-limit seen k h = same-test _ _ (ltb-iff (maxSeen - seen) k) (ltb-iff maxSeen (seen + k)) (λ l. omega arith) (λ l. omega arith)
 
 -- a session is unfit where the delay of its rule is refused
 module _ (s : Session) {d : RuleDelay} (e : d ≡ ruleDelay (s .table) (s .rule)) where
@@ -99,7 +100,7 @@ pub record FeedFits (bad : Bool) (seen k h x o : ℕ) : Type 0 where
   pub history : 4095 ≤ h
   pub scratch : 5280 ≤ x
   pub out : 16 ≤ o
-  pub count : seen + k ≤ seenLimit
+  pub count : seen + k ≤ maxSeen
 
 buffers : (h x o m : ℕ) → (ltb h 4095 || ltb x 5280 || ltb o m) ≡ false → (4095 ≤ h) × (5280 ≤ x) × (m ≤ o)
 buffers h x o m e =
@@ -113,7 +114,7 @@ pub feed-fits : (bad : Bool) (seen k h x o : ℕ) → first (feedRows bad seen k
 feed-fits bad seen k h x o e =
     let no = no-row (feedRows bad seen k h x o) refl e in
     let b = buffers h x o 16 (no 2) in
-    record { fit = no 0; few = ltb-false 1024 k (no 1); history = b .0; scratch = b .1; out = b .2; count = ltb-false seenLimit (seen + k) (no 3) }
+    record { fit = no 0; few = ltb-false 1024 k (no 1); history = b .0; scratch = b .1; out = b .2; count = ltb-false maxSeen (seen + k) (no 3) }
 
 pub record CloseFits (bad : Bool) (h x o : ℕ) : Type 0 where
   pub fit : bad ≡ false

@@ -4,6 +4,8 @@ use mathlib.Core.Bool.{Bool, _||_, not}
 use mathlib.Core.List.{List, [], _∷_, _++_}
 use lib.ListN.{length, take, drop}
 use lib.Dec.{ltb, leb, eqb}
+use Rattle.limits.specs.Limits.{maxBlock, maxSeen, historyWords, scratchWords, feedWords, closeWords}
+use Rattle.refusals.specs.Numbers.{UNSOUND, STATES, BUFFER, SEEN}
 use Rattle.lists.specs.Choice.{Row, pick, _if_, first}
 use Rattle.lists.specs.Sequence.{padded, lastOf}
 use Rattle.lists.specs.Bits.{packed}
@@ -17,8 +19,15 @@ use Rattle.session.specs.declared.Opening.{Opening}
 use Rattle.session.specs.declared.Answer.{Answer}
 
 -- ---- the session
+abbrev pub sessionWith : Table → ℕ → ℕ → Session
+sessionWith t r n = record { table = t; rule = r; seen = n }
+
+-- as it is opened, and document 01's 'no session'
+abbrev pub opened : Table → ℕ → Session
+opened t r = sessionWith t r 0
+
 abbrev pub noSession : Session
-noSession = record { table = noTable; rule = 0; seen = 0 }
+noSession = opened noTable 0
 
 -- what it watches, and how many states a verdict of it waits for
 abbrev pub formulaOf : Session → Formula
@@ -27,13 +36,14 @@ formulaOf s = watchedFormula (s .table) (s .rule)
 abbrev pub delayOf : Session → ℕ
 delayOf s = delay (formulaOf s)
 
+-- with another count of states
 abbrev pub withSeen : Session → ℕ → Session
-withSeen s n = record { table = s .table; rule = s .rule; seen = n }
+withSeen s n = sessionWith (s .table) (s .rule) n
 
--- ---- open: 25 a table that is not sound, 21 no such rule
+-- ---- open
 unfoldable pub opening : Table → ℕ → Opening
 opening t r =
-    record { number = delayNumber t r; session = pick (eqb (delayNumber t r) 0) (record { table = t; rule = r; seen = 0 }) noSession }
+    record { number = delayNumber t r; session = pick (eqb (delayNumber t r) 0) (opened t r) noSession }
 
 -- ---- what a call answers, and what it leaves in history, scratch and out
 pub record Effect : Type 0 where
@@ -46,13 +56,9 @@ pub record Effect : Type 0 where
 abbrev pub refused : ℕ → Session → List ℕ → List ℕ → List ℕ → Effect
 refused n s h x o = record { answer = record { number = n; count = 0; session = s }; history = h; scratch = x; out = o }
 
--- 25: the table is not sound, or the rule number is not below its rule count
+-- the table is not sound, or the rule number is not below its rule count
 abbrev pub unfit : Session → Bool
 unfit s = not (isSound (s .table)) || leb (s .table .«rule_count») (s .rule)
-
--- the largest count of states seen
-abbrev pub seenLimit : ℕ
-seenLimit = 4294967295
 
 -- the states that history holds: the last min(seen, D), oldest first
 abbrev pub keptOf : Session → List ℕ → List ℕ
@@ -66,7 +72,8 @@ verdictWords m count f trace o = padded 0 m (packed count (holds f trace)) ++ dr
 -- its rows of refusals: k is the length of the block, h, x and o those of history, scratch and out
 abbrev pub feedRows : Bool → ℕ → ℕ → ℕ → ℕ → ℕ → List Row
 feedRows bad seen k h x o =
-    (25 if bad) ∷ (22 if ltb 1024 k) ∷ (23 if (ltb h 4095 || ltb x 5280 || ltb o 16)) ∷ (24 if ltb seenLimit (seen + k)) ∷ []
+    (UNSOUND if bad) ∷ (STATES if ltb maxBlock k) ∷ (BUFFER if (ltb h historyWords || ltb x scratchWords || ltb o feedWords)) ∷
+    (SEEN if ltb maxSeen (seen + k)) ∷ []
 
 abbrev pub feedNumber : Session → ℕ → ℕ → ℕ → ℕ → ℕ
 feedNumber s k h x o = first (feedRows (unfit s) (s .seen) k h x o)
@@ -80,7 +87,7 @@ fed s block h x o = record {
   answer = record { number = 0; count = feedCount s (length block); session = withSeen s (s .seen + length block) };
   history = lastOf (delayOf s) (keptOf s h ++ block) ++ drop (min (s .seen + length block) (delayOf s)) h;
   scratch = cleared x;
-  out = verdictWords 16 (feedCount s (length block)) (formulaOf s) (keptOf s h ++ block) o;
+  out = verdictWords feedWords (feedCount s (length block)) (formulaOf s) (keptOf s h ++ block) o;
 }
 
 unfoldable pub feeding : Session → List ℕ → List ℕ → List ℕ → List ℕ → Effect
@@ -90,7 +97,7 @@ feeding s block h x o =
 
 -- ---- close
 abbrev pub closeRows : Bool → ℕ → ℕ → ℕ → List Row
-closeRows bad h x o = (25 if bad) ∷ (23 if (ltb h 4095 || ltb x 5280 || ltb o 64)) ∷ []
+closeRows bad h x o = (UNSOUND if bad) ∷ (BUFFER if (ltb h historyWords || ltb x scratchWords || ltb o closeWords)) ∷ []
 
 abbrev pub closeNumber : Session → ℕ → ℕ → ℕ → ℕ
 closeNumber s h x o = first (closeRows (unfit s) h x o)
@@ -100,7 +107,7 @@ closed s h x o = record {
   answer = record { number = 0; count = min (s .seen) (delayOf s); session = withSeen s 0 };
   history = h;
   scratch = cleared x;
-  out = verdictWords 64 (min (s .seen) (delayOf s)) (formulaOf s) (keptOf s h) o;
+  out = verdictWords closeWords (min (s .seen) (delayOf s)) (formulaOf s) (keptOf s h) o;
 }
 
 unfoldable pub closing : Session → List ℕ → List ℕ → List ℕ → Effect

@@ -3,11 +3,18 @@ ghost use mathlib.Core.Path.{_≡_};
 ghost use mathlib.Core.List.{_++_};
 ghost use Prim.Native.Nat.{_+_, _-_, _≤_, min};
 ghost use lib.ListN.{length, take, drop};
+ghost use Rattle.limits.specs.Limits.{maxBlock};
 ghost use Rattle.lists.specs.Choice.{first};
 ghost use Rattle.table.specs.Nodes.{formulaAt};
 ghost use Rattle.verdict.specs.Verdict.{cleared};
-ghost use Rattle.session.specs.Session.{Effect, noSession, verdictWords, opening, feedRows, fed, feeding, closeRows, closed, closing};
+ghost use Rattle.session.specs.Session.{Effect, sessionWith, noSession, withSeen, verdictWords, opening, feedRows, fed, feeding, closeRows, closed, closing};
 ghost use Rattle.session.specs.Ready.{Writes, Feeds, Closes};
+use limits::CLOSE_WORDS;
+use limits::FEED_WORDS;
+use limits::HISTORY_WORDS;
+use limits::MAX_BLOCK;
+use limits::MAX_SEEN;
+use limits::SCRATCH_WORDS;
 use table::Table;
 
 // Document 01's term: a table, the number of the rule that is watched, and how many states it has seen.
@@ -30,7 +37,13 @@ pub struct Answer {
 }
 
 impl Session {
-    // A session over a sound table, that watches one of its rules; 25, 21 and 'no session' otherwise.
+    pub fn with(table: Table, rule: usize, seen: u32) -> Session
+        ensures { λ r. ⌜ r ≡ sessionWith table rule seen ⌝ }
+    {
+        Session { table, rule, seen }
+    }
+
+    // A session over a sound table, that watches one of its rules; otherwise the number of the refusal and 'no session'.
     pub fn open(table: Table, rule: usize) -> Opening
         ensures { λ r. ⌜ r ≡ opening table rule ⌝ }
     {
@@ -43,11 +56,7 @@ impl Session {
         }
         Opening {
             number: 0,
-            session: Session {
-                table,
-                rule,
-                seen: 0,
-            },
+            session: Session::with(table, rule, 0),
         }
     }
 
@@ -100,12 +109,14 @@ impl Session {
 fn no_session() -> Session
     ensures { λ r. ⌜ r ≡ noSession ⌝ }
 {
-    let table = table::no_table();
-    Session {
-        table,
-        rule: 0,
-        seen: 0,
-    }
+    Session::with(table::no_table(), 0, 0)
+}
+
+// With another count of states seen.
+fn with_seen(s: Session, seen: u32) -> Session
+    ensures { λ r. ⌜ r ≡ withSeen s seen ⌝ }
+{
+    Session::with(s.table, s.rule, seen)
 }
 
 fn lesser(a: usize, b: usize) -> usize
@@ -144,7 +155,7 @@ fn append(s: &mut [u32], at: usize, block: &[u32], from: usize)
 
 // Of the first h states of history and then the block, the last `left` go to history's first places.
 fn keep(history: &mut [u32], h: usize, block: &[u32], left: usize)
-    requires { ⌜ (h ≤ left) × (left ≤ h + length (now block)) × (left ≤ length (now history)) × (length (now block) ≤ 1024) × (1024 ≤ length (now history)) ⌝ }
+    requires { ⌜ (h ≤ left) × (left ≤ h + length (now block)) × (left ≤ length (now history)) × (length (now block) ≤ maxBlock) × (maxBlock ≤ length (now history)) ⌝ }
     ensures { λ _. ⌜ now (history .exit) ≡ drop (h + length (now (block .entry)) - left) (take h (now (history .entry)) ++ now (block .entry)) ++ drop left (now (history .entry)) ⌝ }
 {
     let skip = h + block.len() - left;
@@ -176,18 +187,20 @@ fn write_verdicts(
 fn feed_number(unfit: bool, seen: u32, k: usize, history: usize, scratch: usize, out: usize) -> u8
     ensures { λ r. ⌜ r ≡ first (feedRows unfit seen k history scratch out) ⌝ }
 {
-    let left = 4294967295 - seen as usize;
-    let f24 = lists::either(left < k, 24, 0);
-    let f23 = lists::either((history < 4095) | (scratch < 5280) | (out < 16), 23, f24);
-    let f22 = lists::either(1024 < k, 22, f23);
-    lists::either(unfit, 25, f22)
+    let left = MAX_SEEN - seen as usize;
+    let short = (history < HISTORY_WORDS) | (scratch < SCRATCH_WORDS) | (out < FEED_WORDS);
+    let past = lists::either(left < k, refusals::SEEN, 0);
+    let buffer = lists::either(short, refusals::BUFFER, past);
+    let many = lists::either(MAX_BLOCK < k, refusals::STATES, buffer);
+    lists::either(unfit, refusals::UNSOUND, many)
 }
 
 fn close_number(unfit: bool, history: usize, scratch: usize, out: usize) -> u8
     ensures { λ r. ⌜ r ≡ first (closeRows unfit history scratch out) ⌝ }
 {
-    let f23 = lists::either((history < 4095) | (scratch < 5280) | (out < 64), 23, 0);
-    lists::either(unfit, 25, f23)
+    let short = (history < HISTORY_WORDS) | (scratch < SCRATCH_WORDS) | (out < CLOSE_WORDS);
+    let buffer = lists::either(short, refusals::BUFFER, 0);
+    lists::either(unfit, refusals::UNSOUND, buffer)
 }
 
 // A feed that is accepted; d is the delay.
@@ -209,13 +222,18 @@ fn advance(
     let after = seen + block.len();
     let h = lesser(seen, d);
     let count = over(after, d) - over(seen, d);
-    write_verdicts(t, place, &history[0..h], block, count, 16, scratch, out);
+    write_verdicts(
+        t,
+        place,
+        &history[0..h],
+        block,
+        count,
+        FEED_WORDS,
+        scratch,
+        out,
+    );
     keep(history, h, block, lesser(after, d));
-    let session = Session {
-        table: t,
-        rule,
-        seen: after as u32,
-    };
+    let session = with_seen(s, after as u32);
     Answer {
         number: 0,
         count,
@@ -238,15 +256,11 @@ fn finish(s: Session, d: usize, history: &[u32], scratch: &mut [u64], out: &mut 
         &history[0..count],
         &history[0..0],
         count,
-        64,
+        CLOSE_WORDS,
         scratch,
         out,
     );
-    let session = Session {
-        table: t,
-        rule,
-        seen: 0,
-    };
+    let session = with_seen(s, 0);
     Answer {
         number: 0,
         count,

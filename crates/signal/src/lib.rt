@@ -3,12 +3,15 @@ ghost use mathlib.Core.Path.{_≡_};
 ghost use mathlib.Core.List.{_++_};
 ghost use Prim.Native.Nat.{_+_, _≤_, _<_, min};
 ghost use lib.ListN.{length, getD};
+ghost use Rattle.limits.specs.Limits.{maxSignal, maxTrace, registerWords};
 ghost use Rattle.lists.specs.Bits.{bit, digit, number};
 ghost use Rattle.column.specs.Column.{Laid, WordOf};
 ghost use Rattle.signal.specs.Signal.{signalColumn};
+use limits::MAX_SIGNAL;
+use limits::REGISTER_WORDS;
 
-// The most words of a register: those of 5,120 states.
-const WORDS: usize = 80;
+// How many signals a state has.
+const SIGNALS: usize = MAX_SIGNAL as usize + 1;
 
 // State t of a trace in two parts, and 0 past its end.
 fn state_at(older: &[u32], newer: &[u32], t: usize) -> u32
@@ -27,7 +30,7 @@ fn state_at(older: &[u32], newer: &[u32], t: usize) -> u32
 
 // Bit i of a state as a digit.
 fn digit_of(state: u32, i: usize) -> u64
-    requires { ⌜ i < 32 ⌝ }
+    requires { ⌜ i ≤ maxSignal ⌝ }
     ensures { λ r. ⌜ r ≡ digit (bit state i) ⌝ }
 {
     (state >> i & 1) as u64
@@ -35,7 +38,7 @@ fn digit_of(state: u32, i: usize) -> u64
 
 // Bit i of the 64 states from `from` on.
 fn gathered(states: &[u32], i: usize, from: usize) -> u64
-    requires { ⌜ (i < 32) × (from + 64 ≤ length (now states)) ⌝ }
+    requires { ⌜ (i ≤ maxSignal) × (from + 64 ≤ length (now states)) ⌝ }
     ensures { λ r. ⌜ r ≡ number 64 (λ j. signalColumn i (now (states .entry)) (from + j)) ⌝ }
 {
     let mut x: u64 = 0;
@@ -47,7 +50,7 @@ fn gathered(states: &[u32], i: usize, from: usize) -> u64
 
 // The same of a trace in two parts, and clear past its end.
 fn gathered_apart(older: &[u32], newer: &[u32], i: usize, from: usize) -> u64
-    requires { ⌜ (i < 32) × (from < 5120) ⌝ }
+    requires { ⌜ (i ≤ maxSignal) × (from < maxTrace) ⌝ }
     ensures { λ r. ⌜ r ≡ number 64 (λ j. signalColumn i (now (older .entry) ++ now (newer .entry)) (from + j)) ⌝ }
 {
     let mut x: u64 = 0;
@@ -59,7 +62,7 @@ fn gathered_apart(older: &[u32], newer: &[u32], i: usize, from: usize) -> u64
 
 // Word w of a signal's column.
 fn signal_word(older: &[u32], newer: &[u32], i: usize, w: usize) -> u64
-    requires { ⌜ (i < 32) × (w < 80) ⌝ }
+    requires { ⌜ (i ≤ maxSignal) × (w < registerWords) ⌝ }
     ensures { λ r. ⌜ WordOf (signalColumn i (now (older .entry) ++ now (newer .entry))) w r ⌝ }
 {
     let from = 64 * w;
@@ -78,17 +81,21 @@ fn signal_word(older: &[u32], newer: &[u32], i: usize, w: usize) -> u64
 
 // How many words of a register are packed.
 fn packed_words(len: usize) -> usize
-    ensures { λ r. ⌜ r ≡ min 80 len ⌝ }
+    ensures { λ r. ⌜ r ≡ min registerWords len ⌝ }
 {
-    if len < WORDS { len } else { WORDS }
+    if len < REGISTER_WORDS {
+        len
+    } else {
+        REGISTER_WORDS
+    }
 }
 
-// Bit t of the first 80 words becomes bit i of state t; a state has 32.
+// Bit t of the first register becomes bit i of state t; past the last signal every bit is clear.
 pub fn pack_signal(s: &mut [u64], older: &[u32], newer: &[u32], i: usize)
-    ensures { λ _. ⌜ Laid 0 (min 80 (length (now (s .entry)))) (signalColumn i (now (older .entry) ++ now (newer .entry))) (now (s .entry)) (now (s .exit)) ⌝ }
+    ensures { λ _. ⌜ Laid 0 (min registerWords (length (now (s .entry)))) (signalColumn i (now (older .entry) ++ now (newer .entry))) (now (s .entry)) (now (s .exit)) ⌝ }
 {
     let words = packed_words(s.len());
-    if 31 < i {
+    if SIGNALS <= i {
         column::fill(&mut s[0..words], 0);
         return;
     }

@@ -178,7 +178,7 @@ module _ (t : Table) (sd : Sound t) where
       let a = rule-live k h in
       rw (rule-twice k) (record {
         named = sd .rule k h .named;
-        byte = sd .rule k h .byte;
+        largest = sd .rule k h .largest;
         watched = kp .inside (h1 (ruleAt t k .watched)) (a .in-list) (a .is-marked);
       })
 

@@ -4,6 +4,7 @@ use mathlib.Core.Bool.{Bool}
 use mathlib.Core.List.{List, [], _∷_, foldl}
 use lib.ListN.{getD, take, set, replicate}
 use lib.Dec.{ltb}
+use Rattle.limits.specs.Limits.{maxNodes}
 use Rattle.lists.specs.Bits.{bit}
 use Rattle.lists.specs.Choice.{pick}
 use Rattle.table.specs.Nodes.{noNode}
@@ -24,7 +25,7 @@ renamedRule ps r = record { name = r .name; watched = getD ps (r .watched) 0 }
 
 -- ---- a build: its nodes and its places so far, and one more of each
 abbrev pub noBuild : Build
-noBuild = record { nodes = replicate 64 noNode; count = 0; places = replicate 64 0; done = 0 }
+noBuild = record { nodes = replicate maxNodes noNode; count = 0; places = replicate maxNodes 0; done = 0 }
 
 abbrev pub nodesOf : Build → List Node
 nodesOf b = take (b .count) (b .nodes)
@@ -39,8 +40,8 @@ abbrev pub pushPlace : Build → ℕ → Build
 pushPlace b p = record { nodes = b .nodes; count = b .count; places = set (b .places) (b .done) p; done = b .done + 1 }
 
 pub record Space (b : Build) : Type 0 where
-  pub count : b .count < 64
-  pub done : b .done < 64
+  pub count : b .count < maxNodes
+  pub done : b .done < maxNodes
 
 -- no interval of n or of a node of b passes the limit of a table
 pub record Bounded (b : Build) (n : Node) : Type 0 where

@@ -4,6 +4,7 @@ use mathlib.Core.Path.{_≡_}
 use mathlib.Core.Bool.{true, false}
 use mathlib.Core.List.{List, map}
 use lib.ListN.{length}
+use Rattle.refusals.specs.Numbers.{UNSOUND}
 use Rattle.mltl.specs.Mltl.{holds, delay}
 use Rattle.table.specs.Nodes.{watchedFormula}
 use Rattle.table.specs.Sound.{isSound}
@@ -28,7 +29,7 @@ pub record Simpler (t u : Table) : Type 0 where
   pub none-fits : Fits u → ⊥
   pub unchanged : (Fits t → ⊥) → u ≡ t
 
--- number 25 and the table as it came where it is not sound, and otherwise number 0 and a simplification
+-- refused with the table as it came where it is not sound, and otherwise number 0 and a simplification
 pub record Promised (t : Table) (r : Simplified) : Type 0 where
-  pub refused : isSound t ≡ false → r ≡ record { number = 25; table = t }
+  pub refused : isSound t ≡ false → r ≡ record { number = UNSOUND; table = t }
   pub accepted : isSound t ≡ true → (r .number ≡ 0) × Simpler t (r .table)

@@ -1,4 +1,6 @@
 // The simplifier of tables: document 01's laws put to use until none fits.
+use limits::MAX_NODES;
+use limits::MAX_RULES;
 use table::Node;
 use table::Rule;
 use table::Table;
@@ -6,6 +8,7 @@ ghost use mathlib.Core.Path.{_≡_};
 ghost use mathlib.Core.List.{map, foldl};
 ghost use Prim.Native.Nat.{_+_, _≤_, _<_};
 ghost use lib.ListN.{getD, take};
+ghost use Rattle.limits.specs.Limits.{maxNodes, maxRules};
 ghost use Rattle.table.specs.Nodes.{opOf};
 ghost use Rattle.table.specs.Sound.{Sound};
 ghost use Rattle.simplify.specs.Law.{nodeIn, sameNode, constant, merged, overOne, isInside, leftStays, lawNot, lawOne, lawTwo, lawJoin, lawAs};
@@ -21,9 +24,9 @@ enum Outcome {
 
 // New nodes, and the new place of each old node so far.
 struct Build {
-    nodes: [Node; 64],
+    nodes: [Node; MAX_NODES],
     count: usize,
-    places: [u8; 64],
+    places: [u8; MAX_NODES],
     done: usize,
 }
 
@@ -173,18 +176,18 @@ fn no_build() -> Build
     ensures { λ r. ⌜ r ≡ noBuild ⌝ }
 {
     let none = constant(0);
-    let nodes = [none; 64];
+    let nodes = [none; MAX_NODES];
     Build {
         nodes: nodes,
         count: 0,
-        places: [0u8; 64],
+        places: [0u8; MAX_NODES],
         done: 0,
     }
 }
 
 // The first of `count` nodes that equals `n`, or `count`.
-fn find(nodes: [Node; 64], count: usize, n: Node) -> usize
-    requires { ⌜ count ≤ 64 ⌝ }
+fn find(nodes: [Node; MAX_NODES], count: usize, n: Node) -> usize
+    requires { ⌜ count ≤ maxNodes ⌝ }
     ensures { λ r. ⌜ r ≡ find (take count nodes) n ⌝ }
 {
     let mut i: usize = 0;
@@ -197,16 +200,16 @@ fn find(nodes: [Node; 64], count: usize, n: Node) -> usize
     i
 }
 
-fn node_at(nodes: [Node; 64], at: u8) -> Node
+fn node_at(nodes: [Node; MAX_NODES], at: u8) -> Node
     ensures { λ r. ⌜ r ≡ nodeIn nodes at ⌝ }
 {
     let k = at as usize;
-    if k < 64 { nodes[k] } else { constant(0) }
+    if k < MAX_NODES { nodes[k] } else { constant(0) }
 }
 
 // The new place of an old one, and 0 for any other.
 fn place_of(b: Build, at: u8) -> u8
-    requires { ⌜ b .done ≤ 64 ⌝ }
+    requires { ⌜ b .done ≤ maxNodes ⌝ }
     ensures { λ r. ⌜ r ≡ getD (placesOf b) at 0 ⌝ }
 {
     let k = at as usize;
@@ -216,7 +219,7 @@ fn place_of(b: Build, at: u8) -> u8
 
 // A node over the new places of its operands.
 fn renamed(b: Build, n: Node) -> Node
-    requires { ⌜ b .done ≤ 64 ⌝ }
+    requires { ⌜ b .done ≤ maxNodes ⌝ }
     ensures { λ r. ⌜ r ≡ renamed (placesOf b) n ⌝ }
 {
     Node {
@@ -230,7 +233,7 @@ fn renamed(b: Build, n: Node) -> Node
 }
 
 fn push_node(mut b: Build, n: Node) -> Build
-    requires { ⌜ b .count < 64 ⌝ }
+    requires { ⌜ b .count < maxNodes ⌝ }
     ensures { λ r. ⌜ r ≡ pushNode b n ⌝ }
 {
     let at = b.count;
@@ -240,7 +243,7 @@ fn push_node(mut b: Build, n: Node) -> Build
 }
 
 fn push_place(mut b: Build, place: u8) -> Build
-    requires { ⌜ b .done < 64 ⌝ }
+    requires { ⌜ b .done < maxNodes ⌝ }
     ensures { λ r. ⌜ r ≡ pushPlace b place ⌝ }
 {
     let at = b.done;
@@ -305,8 +308,8 @@ fn mark_rule(marks: u64, r: Rule) -> u64
 }
 
 // The marks of the nodes that the rules watch.
-fn mark_watched(rules: [Rule; 8], count: usize) -> u64
-    requires { ⌜ count ≤ 8 ⌝ }
+fn mark_watched(rules: [Rule; MAX_RULES], count: usize) -> u64
+    requires { ⌜ count ≤ maxRules ⌝ }
     ensures { λ r. ⌜ r ≡ markWatched (take count rules) ⌝ }
 {
     let mut m: u64 = 0;
@@ -330,8 +333,8 @@ fn keep(b: Build, yes: bool, n: Node) -> Build
 }
 
 // The marked nodes, in order.
-fn sweep(marks: u64, nodes: [Node; 64], count: usize) -> Build
-    requires { ⌜ count ≤ 64 ⌝ }
+fn sweep(marks: u64, nodes: [Node; MAX_NODES], count: usize) -> Build
+    requires { ⌜ count ≤ maxNodes ⌝ }
     ensures { λ r. ⌜ r ≡ foldl (keepBy marks) noBuild (take count nodes) ⌝ }
 {
     let mut b = no_build();
@@ -344,7 +347,7 @@ fn sweep(marks: u64, nodes: [Node; 64], count: usize) -> Build
 }
 
 fn renamed_rule(b: Build, r: Rule) -> Rule
-    requires { ⌜ b .done ≤ 64 ⌝ }
+    requires { ⌜ b .done ≤ maxNodes ⌝ }
     ensures { λ s. ⌜ s ≡ renamedRule (placesOf b) r ⌝ }
 {
     Rule {
@@ -353,13 +356,13 @@ fn renamed_rule(b: Build, r: Rule) -> Rule
     }
 }
 
-fn renamed_rules(b: Build, rules: [Rule; 8]) -> [Rule; 8]
-    requires { ⌜ b .done ≤ 64 ⌝ }
+fn renamed_rules(b: Build, rules: [Rule; MAX_RULES]) -> [Rule; MAX_RULES]
+    requires { ⌜ b .done ≤ maxNodes ⌝ }
     ensures { λ r. ⌜ r ≡ map (renamedRule (placesOf b)) rules ⌝ }
 {
     let mut out = rules;
     let mut i: usize = 0;
-    while i < 8 {
+    while i < MAX_RULES {
         out[i] = renamed_rule(b, rules[i]);
         i += 1;
     }
@@ -374,7 +377,7 @@ pub fn simplify(t: Table) -> Simplified
 {
     if !table::sound(t) {
         return Simplified {
-            number: 25,
+            number: refusals::UNSOUND,
             table: t,
         };
     }

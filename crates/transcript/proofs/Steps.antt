@@ -8,6 +8,7 @@ use mathlib.Core.List.{List, [], _∷_, _++_, map, map-append, append-assoc, app
 use borrow.Author.Tests.{eq-eqb, ne-eqb, eqb-true, not-false, le-leb, lt-leb, le-ltb, ltb-true}
 use lib.Dec.{eqb, ltb}
 use lib.ListN.{length, take, length-append}
+use Rattle.limits.specs.Limits.{maxSeen}
 use Rattle.lists.specs.Choice.{pick}
 use Rattle.lists.specs.Sequence.{ticks}
 use Rattle.lists.specs.Bits.{bitAt}
@@ -15,7 +16,7 @@ use Rattle.lists.proofs.Tests.{true-or-false}
 use Rattle.lists.proofs.Sequences.{length-ticks}
 use Rattle.table.proofs.Soundness.{watched-short}
 use Rattle.session.specs.declared.Session.{Session}
-use Rattle.session.specs.Session.{Effect, feeding, closing, seenLimit, unfit, withSeen, delayOf as delayIn}
+use Rattle.session.specs.Session.{Effect, feeding, closing, unfit, withSeen, delayOf as delayIn}
 use Rattle.session.proofs.Effects.{opened-is, opened-rule, opened-sound, opened-fit, feed-number, close-number}
 use Rattle.acts.specs.Claim.{Going}
 use Rattle.mission.specs.Calls.{Call, feed, close, begin, accepted, statesFed, verdictsGiven}
@@ -137,7 +138,7 @@ module _ (m : Start) where
           let n : length all ≡ length fed + (length waiting + length (f xs .states)) =
           omega (arith, length-append fed (waiting ++ f xs .states), length-append waiting (f xs .states)) in
           let i : inBlocks (length all) ≡ length fed = omega (arith, n, k, r .blocks e) in
-          let t : toldBad m all ≡ rowsUpTo m all (length fed - D) ++ badLine (length all + 1) = rw (i, le-leb (length fed) seenLimit (omega (arith, counted, seen-is))) in
+          let t : toldBad m all ≡ rowsUpTo m all (length fed - D) ++ badLine (length all + 1) = rw (i, le-leb (length fed) maxSeen (omega (arith, counted, seen-is))) in
           let u : length all + 1 ≡ s .seen + (length waiting + length (f xs .states)) + 1 = omega (arith, n, seen-is) in
           ap (told m) w
           ∙ rw (bad-first all (bad ∷ readingsFrom (f xs .line) later), states-first all (bad ∷ readingsFrom (f xs .line) later), append-nil all)
@@ -151,7 +152,7 @@ module _ (m : Start) where
         abbrev call : Call
         call = record { act = feed waiting; session = s; history = h; scratch = x; out = o; effect = answer }
 
-        number-is : answer .answer .number ≡ pick (ltb seenLimit (s .seen + length waiting)) 24 0
+        number-is : answer .answer .number ≡ pick (ltb maxSeen (s .seen + length waiting)) 24 0
         number-is =
             feed-number s h x o waiting
             ∙ rw (fit, le-ltb 1024 (length waiting) (r .fits), le-ltb (length h) 4095 hh, le-ltb (length x) 5280 hx, le-ltb (length o) 16 ho)
@@ -178,17 +179,17 @@ module _ (m : Start) where
         pub stopped-fed : last ≡ false → (answer .answer .number ≡ 0 → ⊥) → Stopped m read (shown ++ feedLine (answer .answer .number))
         unfolding printed
         stopped-fed e z later =
-            let over : ltb seenLimit (s .seen + length waiting) ≡ true =
-            ⊎-elim (λ (b : ltb seenLimit (s .seen + length waiting) ≡ true). b) (λ (b : ltb seenLimit (s .seen + length waiting) ≡ false). absurd (z (number-is ∙ rw b)))
-            (true-or-false (ltb seenLimit (s .seen + length waiting))) in
+            let over : ltb maxSeen (s .seen + length waiting) ≡ true =
+            ⊎-elim (λ (b : ltb maxSeen (s .seen + length waiting) ≡ true). b) (λ (b : ltb maxSeen (s .seen + length waiting) ≡ false). absurd (z (number-is ∙ rw b)))
+            (true-or-false (ltb maxSeen (s .seen + length waiting))) in
             let n : answer .answer .number ≡ 24 = number-is ∙ rw over in
-            let lt = ltb-true seenLimit (s .seen + length waiting) over in
-            let most : length fed ≡ inBlocks seenLimit = omega (arith, lt, counted, seen-is, r .fits, r .blocks e) in
+            let lt = ltb-true maxSeen (s .seen + length waiting) over in
+            let most : length fed ≡ inBlocks maxSeen = omega (arith, lt, counted, seen-is, r .fits, r .blocks e) in
             let rs = readingsFrom line later in
             let all = (fed ++ waiting) ++ statesOf rs in
-            let long : seenLimit < length all = omega (arith, lt, seen-is, length-append (fed ++ waiting) (statesOf rs), length-append fed waiting) in
-            let a : toldAll m all ≡ feedRefused m all = rw (lt-leb (length all) seenLimit long) in
-            let b : toldBad m all ≡ feedRefused m all = rw (lt-leb (inBlocks (length all)) seenLimit (omega (arith, long))) in
+            let long : maxSeen < length all = omega (arith, lt, seen-is, length-append (fed ++ waiting) (statesOf rs), length-append fed waiting) in
+            let a : toldAll m all ≡ feedRefused m all = rw (lt-leb (length all) maxSeen long) in
+            let b : toldBad m all ≡ feedRefused m all = rw (lt-leb (inBlocks (length all)) maxSeen (omega (arith, long))) in
             let w : feedRefused m all ≡ shown ++ feedLine 24 = rw (← most, append-assoc fed waiting (statesOf rs), ← shown-is (waiting ++ statesOf rs)) in
             ap (told m) (r .text later)
             ∙ rw (bad-first (fed ++ waiting) rs, states-first (fed ++ waiting) rs) (either (noneBad rs) a b ∙ w ∙ rw (← n))
@@ -227,5 +228,5 @@ module _ (m : Start) where
           rw (r .rows, ← a) (sym (rows-append (decimal (ruleName m)) 0 (verdictsGiven (r .calls)) us)) ∙ ap (rowsOf (ruleName m) 0) v in
           let w : readings read ≡ map state fed ++ [] =
           ap readings (sym (append-nil read)) ∙ r .text [] ∙ rw (none, eq-eqb (line .digits) 0 d, append-nil fed) in
-          let q : toldAll m fed ≡ rowsUpTo m fed (length fed) = rw (le-leb (length fed) seenLimit (omega (arith, counted, seen-is))) in
+          let q : toldAll m fed ≡ rowsUpTo m fed (length fed) = rw (le-leb (length fed) maxSeen (omega (arith, counted, seen-is))) in
           ap (told m) w ∙ rw (bad-first fed [], states-first fed [], append-nil fed) (q ∙ sym k)

@@ -5,12 +5,13 @@ use mathlib.Core.Bool.{Bool, true, false}
 use mathlib.Core.List.{List, [], _∷_, _++_, map}
 use lib.ListN.{length, getD}
 use lib.Dec.{leb}
+use Rattle.limits.specs.Limits.{maxBlock, maxSeen}
+use Rattle.refusals.specs.Numbers.{SEEN}
 use Rattle.lists.specs.Choice.{pick}
 use Rattle.lists.specs.Sequence.{ticks}
 use Rattle.table.specs.declared.Rule.{Rule}
 use Rattle.book.specs.Reading.{reading}
 use Rattle.session.specs.declared.Session.{Session}
-use Rattle.session.specs.Session.{seenLimit}
 use Rattle.mission.specs.Calls.{Call, Calls, statesFed, verdictsGiven}
 use Rattle.mission.specs.Mission.{Start, sessionOf, delayOf, verdictOf}
 use Rattle.lines.specs.declared.Line.{Line}
@@ -29,9 +30,9 @@ noneBad [] = true
 noneBad (state v ∷ rs) = noneBad rs
 noneBad (bad ∷ rs) = false
 
--- how many of n states stand in whole blocks of 1,024
+-- how many of n states stand in whole blocks
 abbrev pub inBlocks : ℕ → ℕ
-inBlocks n = n - n % 1024
+inBlocks n = n - n % maxBlock
 
 -- the name of a rule
 abbrev pub nameOf : List Rule → ℕ → ℕ
@@ -48,16 +49,16 @@ module _ (m : Start) where
 
   -- a feed was refused: the blocks before it were fed, as many as the count of states allows
   abbrev pub feedRefused : List ℕ → List ℕ
-  feedRefused states = rowsUpTo states (inBlocks seenLimit - delayOf m) ++ feedLine 24
+  feedRefused states = rowsUpTo states (inBlocks maxSeen - delayOf m) ++ feedLine SEEN
 
   -- no line is bad: the verdicts of all ticks
   abbrev pub toldAll : List ℕ → List ℕ
-  toldAll states = pick (leb (length states) seenLimit) (rowsUpTo states (length states)) (feedRefused states)
+  toldAll states = pick (leb (length states) maxSeen) (rowsUpTo states (length states)) (feedRefused states)
 
   -- a line is bad, after these states: the verdicts that the whole blocks settle, and the line's number from 1
   abbrev pub toldBad : List ℕ → List ℕ
   toldBad states =
-      pick (leb (inBlocks (length states)) seenLimit)
+      pick (leb (inBlocks (length states)) maxSeen)
       (rowsUpTo states (inBlocks (length states) - delayOf m) ++ badLine (length states + 1))
       (feedRefused states)
 
@@ -75,8 +76,8 @@ module _ (m : Start) where
     pub reached : Calls (sessionOf m) (m .history) calls s h false
     pub rows : shown ≡ rowsOf ruleName 0 (verdictsGiven calls)
     pub next : tick ≡ length (verdictsGiven calls)
-    pub blocks : last ≡ false → length (statesFed calls) % 1024 ≡ 0
-    pub fits : length waiting ≤ 1024
+    pub blocks : last ≡ false → length (statesFed calls) % maxBlock ≡ 0
+    pub fits : length waiting ≤ maxBlock
     -- what was read says these states and the line so far, whatever follows
     pub text : (later : List ℕ) → readings (read ++ later) ≡ map state (statesFed calls ++ waiting) ++ readingsFrom line later
 

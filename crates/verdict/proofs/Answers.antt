@@ -12,6 +12,7 @@ use borrow.Rule.Slice.PartMut.{midOf, putMid}
 use lib.Dec.{eqb, leb, ltb}
 use lib.ListN.{drop, getD, length, length-append, length-take, replicate, set, take}
 use lib.Seq.{drop-paste, getD-take, paste, paste-suc, take-all, take-paste, take-take}
+use Rattle.limits.specs.Limits.{registerWords}
 use Rattle.lists.proofs.Columns.{bitAt-same, length-packed, pack-ext, packed-in}
 use Rattle.lists.proofs.Sequences.{every-iff}
 use Rattle.lists.proofs.Rows.{no-row}
@@ -26,7 +27,7 @@ use Rattle.table.specs.declared.Node.{Node}
 use Rattle.table.specs.declared.Table.{Table}
 use Rattle.column.proofs.Registers.{length-register}
 use Rattle.column.specs.Column.{Turned, register}
-use Rattle.verdict.specs.Steps.{registerSize, Ready, Run, marked}
+use Rattle.verdict.specs.Steps.{Ready, Run, marked}
 use Rattle.verdict.specs.Verdict.{Answered, Judged, cleared, enough, fitsTo, numberFor, numberOf, ready, told, wholeRows}
 
 -- ---- out and scratch
@@ -52,8 +53,8 @@ cut-is m count n f c e h g =
 -- the words of out that were copied from the register of node k, cut at `count`
 pub told-is : {ns : List Node} {marks : ℕ} {trace xs ys mid z : List ℕ} (out : List ℕ) (k count j : ℕ) → j ≡ words count → count ≤ length trace
     → words count ≤ length out
-    → marked marks k ≡ true → Run (k + 1) ns marks trace xs ys → registerSize * k + words (length trace) ≤ length ys
-    → mid ≡ paste out 0 (register (registerSize * k) (words count) ys) (words count)
+    → marked marks k ≡ true → Run (k + 1) ns marks trace xs ys → registerWords * k + words (length trace) ≤ length ys
+    → mid ≡ paste out 0 (register (registerWords * k) (words count) ys) (words count)
     → Turned (below count (bitAt (midOf 0 j mid))) (midOf 0 j mid) z
     → putMid 0 j mid z ≡ told (formulaAt ns k) trace count out
 told-is {ns} {trace = trace} {ys = ys} {mid = mid} {z = z} out k count j g c l on r long q v =
@@ -61,14 +62,14 @@ told-is {ns} {trace = trace} {ys = ys} {mid = mid} {z = z} out k count j g c l o
     let n : ℕ = length trace in
     let f : ℕ → Bool = holds (formulaAt ns k) trace in
     let e : m ≤ words n = omega arith in
-    let w : register (registerSize * k) m ys ≡ take m (packed n f) = sym (take-take m (words n) (drop (registerSize * k) ys) e) ∙ ap (take m) (r .at k (omega arith) on) in
-    let lw : length (register (registerSize * k) m ys) ≡ m = length-register (registerSize * k) m ys (omega arith) in
+    let w : register (registerWords * k) m ys ≡ take m (packed n f) = sym (take-take m (words n) (drop (registerWords * k) ys) e) ∙ ap (take m) (r .at k (omega arith) on) in
+    let lw : length (register (registerWords * k) m ys) ≡ m = length-register (registerWords * k) m ys (omega arith) in
     let held : take m mid ≡ take m (packed n f) =
-    ap (take m) q ∙ ap (λ (i : ℕ). take i (paste out 0 (register (registerSize * k) m ys) m)) (sym (zero-add m))
-    ∙ take-paste out 0 (register (registerSize * k) m ys) m (omega arith) (omega (arith, lw)) ∙ take-all m (register (registerSize * k) m ys) (omega (arith, lw)) ∙ w in
+    ap (take m) q ∙ ap (λ (i : ℕ). take i (paste out 0 (register (registerWords * k) m ys) m)) (sym (zero-add m))
+    ∙ take-paste out 0 (register (registerWords * k) m ys) m (omega arith) (omega (arith, lw)) ∙ take-all m (register (registerWords * k) m ys) (omega (arith, lw)) ∙ w in
     let rest : drop m mid ≡ drop m out =
-    ap (drop m) q ∙ ap (λ (i : ℕ). drop i (paste out 0 (register (registerSize * k) m ys) m)) (sym (zero-add m))
-    ∙ drop-paste out 0 (register (registerSize * k) m ys) m (omega arith) (omega (arith, lw)) ∙ ap (λ (i : ℕ). drop i out) (zero-add m) in
+    ap (drop m) q ∙ ap (λ (i : ℕ). drop i (paste out 0 (register (registerWords * k) m ys) m)) (sym (zero-add m))
+    ∙ drop-paste out 0 (register (registerWords * k) m ys) m (omega arith) (omega (arith, lw)) ∙ ap (λ (i : ℕ). drop i out) (zero-add m) in
     let lh : length (take m mid) ≡ m = ap length held ∙ length-take m (packed n f) ∙ omega (arith, length-packed n f) in
     let bits : z ≡ packed count f =
     v .is ∙ ap (λ (i : ℕ). pack (length (take i mid)) (below count (bitAt (take i mid)))) g ∙ ap (λ (i : ℕ). pack i (below count (bitAt (take m mid)))) lh

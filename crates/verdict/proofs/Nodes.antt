@@ -8,6 +8,7 @@ use native.Mathlib.Omega.{arith}
 use borrow.Author.Tests.{lt-ltb, le-ltb, ne-eqb}
 use lib.Dec.{ltb, leb, eqb}
 use lib.ListN.{length, getD, List·getD-eq-default}
+use Rattle.limits.specs.Limits.{registerWords}
 use Rattle.lists.specs.Bits.{bit, bitAt, words, pack, packed, below}
 use Rattle.lists.specs.Choice.{pick}
 use Rattle.lists.proofs.Tests.{lt-or-le}
@@ -22,7 +23,7 @@ use Rattle.table.specs.Sound.{fits}
 use Rattle.table.specs.declared.Node.{Node}
 use Rattle.table.specs.declared.Uses.{Uses}
 use Rattle.table.proofs.Soundness.{fits-iff}
-use Rattle.verdict.specs.Steps.{registerSize, nodeColumn, Place, Computable}
+use Rattle.verdict.specs.Steps.{nodeColumn, Place, Computable}
 use Rattle.windows.proofs.Windows.{until-same}
 
 -- ---- columns of n bits
@@ -172,9 +173,9 @@ other k a b e f h = constant k a b e f (past 7 refl) (past 8 refl) (past 9 refl)
     past : (j : ℕ) → (leb 7 j && leb j 10) ≡ true → k ≡ j → ⊥
     past j t q = false≢true (sym h ∙ ap (λ (i : ℕ). leb 7 i && leb i 10) q ∙ t)
 
-pub place-of : {i n : ℕ} {x : Node} {xs : List ℕ} → Computable i n x xs → Place (registerSize * i) (words n) xs
+pub place-of : {i n : ℕ} {x : Node} {xs : List ℕ} → Computable i n x xs → Place (registerWords * i) (words n) xs
 place-of c = let i = c .place in let s = c .short in record { node = omega arith; small = omega arith; enough = c .enough }
 
 -- an operand's register lies below the node's
-pub apart : {l i : ℕ} → l < i → registerSize * l + registerSize ≤ registerSize * i
+pub apart : {l i : ℕ} → l < i → registerWords * l + registerWords ≤ registerWords * i
 apart h = omega arith

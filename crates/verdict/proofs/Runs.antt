@@ -9,6 +9,7 @@ use native.Mathlib.Omega.{arith}
 use borrow.Author.Tests.{eq-eqb}
 use lib.ListN.{length, getD, take, drop}
 use lib.Seq.{getD-take, length-take-le}
+use Rattle.limits.specs.Limits.{registerWords, scratchWords}
 use Rattle.lists.specs.Bits.{words, packed}
 use Rattle.lists.proofs.Bits.{bit-none}
 use Rattle.lists.proofs.Tests.{true-or-false}
@@ -21,7 +22,7 @@ use Rattle.table.proofs.Delays.{formula-at, formula-prefix}
 use Rattle.needed.specs.Marks.{hasOperand, mark, needed}
 use Rattle.needed.proofs.Bits.{mark-bit}
 use Rattle.needed.proofs.Marked.{Marked, needed-marked, used-left, used-right}
-use Rattle.verdict.specs.Steps.{registerSize, scratchSize, Maybe, Run, columnIn, marked, Needs}
+use Rattle.verdict.specs.Steps.{Maybe, Run, columnIn, marked, Needs}
 use Rattle.verdict.proofs.Steps.{kept-register}
 use Rattle.verdict.proofs.Nodes.{fit-as, column-is}
 
@@ -36,9 +37,9 @@ maybe-by {on} {b = b} {m = m} {s = s} {s′ = s′} x trace t e r =
     subst (λ (v : Bool). Maybe v b (words m) (columnIn x m trace s) s s′) t
     (subst (λ (w : ℕ). Maybe on b (words w) (columnIn x w trace s) s s′) e r)
 
-module _ {ns : List Node} {marks : ℕ} {trace s₀ s s′ : List ℕ} (top i : ℕ) (a : i < 64) (b : i < length ns) (bound : i ≤ top) (l : scratchSize ≤ length s)
+module _ {ns : List Node} {marks : ℕ} {trace s₀ s s′ : List ℕ} (top i : ℕ) (a : i < 64) (b : i < length ns) (bound : i ≤ top) (l : scratchWords ≤ length s)
     (k : length s′ ≡ length s) (small : length trace ≤ 5120) (fitting : fits i (getD ns i noNode) ≡ true) (need : Needs ns top marks) (r : Run i ns marks trace s₀ s)
-    (both : Maybe (marked marks i) (registerSize * i) (words (length trace)) (columnIn (getD ns i noNode) (length trace) trace s) s s′) where
+    (both : Maybe (marked marks i) (registerWords * i) (words (length trace)) (columnIn (getD ns i noNode) (length trace) trace s) s s′) where
   abbrev x : Node
   x = getD ns i noNode
 
@@ -46,22 +47,22 @@ module _ {ns : List Node} {marks : ℕ} {trace s₀ s s′ : List ℕ} (top i : 
   n = length trace
 
   -- below the node's register, and from the end of the registers on, nothing changed
-  kept : (take (registerSize * i) s′ ≡ take (registerSize * i) s) × (drop scratchSize s′ ≡ drop scratchSize s)
+  kept : (take (registerWords * i) s′ ≡ take (registerWords * i) s) × (drop scratchWords s′ ≡ drop scratchWords s)
   kept =
       ⊎-elim (λ m. let p = both .step m in (p .low, p .high))
-      (λ m. let p = both .stay m in (ap (take (registerSize * i)) p, ap (drop scratchSize) p)) (true-or-false (marked marks i))
+      (λ m. let p = both .stay m in (ap (take (registerWords * i)) p, ap (drop scratchWords) p)) (true-or-false (marked marks i))
 
-  below : (j : ℕ) → j < i → marked marks j ≡ true → register (registerSize * j) (words n) s′ ≡ packed n (holds (formulaAt ns j) trace)
-  below j h m = kept-register (registerSize * i) (registerSize * j) (words n) s s′ (kept .0) (omega arith) (omega arith) (omega arith) ∙ r .at j h m
+  below : (j : ℕ) → j < i → marked marks j ≡ true → register (registerWords * j) (words n) s′ ≡ packed n (holds (formulaAt ns j) trace)
+  below j h m = kept-register (registerWords * i) (registerWords * j) (words n) s s′ (kept .0) (omega arith) (omega arith) (omega arith) ∙ r .at j h m
 
-  here : marked marks i ≡ true → register (registerSize * i) (words n) s′ ≡ packed n (holds (formulaAt ns i) trace)
+  here : marked marks i ≡ true → register (registerWords * i) (words n) s′ ≡ packed n (holds (formulaAt ns i) trace)
   here m =
       let f = fit-as (x .kind) i x refl fitting in
-      let operand : (j : ℕ) → j < i → marked marks j ≡ true → register (registerSize * j) (words n) s ≡ packed n (holds (formulaAt (take i ns) j) trace) =
+      let operand : (j : ℕ) → j < i → marked marks j ≡ true → register (registerWords * j) (words n) s ≡ packed n (holds (formulaAt (take i ns) j) trace) =
       λ j h e. r .at j h e ∙ ap (λ (g : Formula). packed n (holds g trace)) (sym (formula-prefix ns i j h (omega arith)))
       in
       both .step m .here
-      ∙ column-is x i n trace (register (registerSize * x .left) (words n) s) (register (registerSize * x .right) (words n) s) (formulaAt (take i ns) (x .left))
+      ∙ column-is x i n trace (register (registerWords * x .left) (words n) s) (register (registerWords * x .right) (words n) s) (formulaAt (take i ns) (x .left))
       (formulaAt (take i ns) (x .right)) refl (opOf (x .kind))
       (λ u. operand (x .left) (f .left u) (need .left i bound m u (f .left u)))
       (λ u. operand (x .right) (f .right u) (need .right i bound m u (f .right u)))
@@ -71,7 +72,7 @@ module _ {ns : List Node} {marks : ℕ} {trace s₀ s s′ : List ℕ} (top i : 
   run-more =
       record {
         at = λ j h m.
-            ⊎-elim (λ (e : j ≡ i). subst (λ (w : ℕ). marked marks w ≡ true → register (registerSize * w) (words n) s′ ≡ packed n (holds (formulaAt ns w) trace)) (sym e) here m)
+            ⊎-elim (λ (e : j ≡ i). subst (λ (w : ℕ). marked marks w ≡ true → register (registerWords * w) (words n) s′ ≡ packed n (holds (formulaAt ns w) trace)) (sym e) here m)
             (λ (e : j < i). below j e m) (eq-or-lt-of-le (omega arith));
         high = kept .1 ∙ r .high;
       }

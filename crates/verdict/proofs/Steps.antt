@@ -10,6 +10,7 @@ use borrow.Rule.Slice.PartMut.{putMid, midOf, take-put, drop-put}
 use lib.Dec.{ltb}
 use lib.ListN.{length, take, drop}
 use lib.Seq.{drop-drop, drop-paste, drop-at, take-take, take-append-le, length-take-le}
+use Rattle.limits.specs.Limits.{registerWords, scratchWords}
 use Rattle.lists.specs.Bits.{bitAt, pack, below}
 use Rattle.lists.specs.Choice.{pick}
 use Rattle.lists.proofs.Columns.{length-pack, bitAt-past}
@@ -24,7 +25,7 @@ use Rattle.windows.specs.Windows.{third, misplaced, untilOf, releaseOf, untilLa
 use Rattle.windows.specs.Steps.{Three}
 use Rattle.windows.proofs.Lays.{held}
 use Rattle.windows.proofs.Results.{until-first, release-first}
-use Rattle.verdict.specs.Steps.{registerSize, leftPlace, workPlace, scratchSize, Interval, Place, Operand, Step}
+use Rattle.verdict.specs.Steps.{leftPlace, workPlace, Interval, Place, Operand, Step}
 
 -- a register below what is known
 pub kept-register : (b at m : ℕ) (xs ys : List ℕ) → take b ys ≡ take b xs → at + m ≤ b → b ≤ length xs → b ≤ length ys → register at m ys ≡ register at m xs
@@ -46,7 +47,7 @@ laid-step {b} {m} {f} {xs} h r =
     record {
       here = ap (register b m) (r .is) ∙ register-lay b m f xs (omega arith);
       low = ap (take b) (r .is) ∙ take-lay b m f xs (omega arith);
-      high = ap (drop scratchSize) (r .is) ∙ drop-lay b m f xs scratchSize (omega arith) (omega arith);
+      high = ap (drop scratchWords) (r .is) ∙ drop-lay b m f xs scratchWords (omega arith) (omega arith);
     }
 
 -- the part from the register at a to the end of that at b
@@ -73,7 +74,7 @@ one-step {b} {m} {f} {xs} ys h r =
 
 -- the part that is the register at b, in which the first words were laid
 pub packed-step : {b m : ℕ} {f : ℕ → Bool} {xs : List ℕ} (ys : List ℕ) → Place b m xs
-    → Laid 0 (min registerSize (length (midOf b (b + m - b) xs))) f (midOf b (b + m - b) xs) ys → Step b m f xs (putMid b (b + m - b) xs ys)
+    → Laid 0 (min registerWords (length (midOf b (b + m - b) xs))) f (midOf b (b + m - b) xs) ys → Step b m f xs (putMid b (b + m - b) xs ys)
 packed-step {b} {m} {f} {xs} ys h r =
     let i = h .node in
     let j = h .small in
@@ -89,7 +90,7 @@ module _ {b m : ℕ} (c : List ℕ) {xs ys : List ℕ} (l : b + m ≤ length xs)
   laid-bits = held m (bitAt c) (ap (register b m) (p .is) ∙ register-lay b m (bitAt c) xs l) (λ t k. bitAt-past c t (omega arith))
 
 -- the register at a loaded into that at b, and turned there
-pub loaded : (F : ℕ → (ℕ → Bool) → ℕ → Bool) (a : ℕ) {b m : ℕ} {xs ys : List ℕ} (zs : List ℕ) → Place b m xs → a + registerSize ≤ b → Laid b m (bitAt (register a m xs)) xs ys
+pub loaded : (F : ℕ → (ℕ → Bool) → ℕ → Bool) (a : ℕ) {b m : ℕ} {xs ys : List ℕ} (zs : List ℕ) → Place b m xs → a + registerWords ≤ b → Laid b m (bitAt (register a m xs)) xs ys
     → Turned (F (length (midOf b (b + m - b) ys)) (bitAt (midOf b (b + m - b) ys))) (midOf b (b + m - b) ys) zs
     → Step b m (F m (bitAt (register a m xs))) xs (putMid b (b + m - b) ys zs)
 loaded F a {b} {m} {xs} {ys} zs h l p q =
@@ -103,7 +104,7 @@ loaded F a {b} {m} {xs} {ys} zs h l p q =
     (one-step zs (place-after fits h p) (subst (λ (f : ℕ → Bool). Turned f (midOf b (b + m - b) ys) zs) (ap₂ F wide bits) q))
 
 -- the register at a loaded into that at b, and there joined with that at c
-pub paired : (g : Bool → Bool → Bool) (a c : ℕ) {b m : ℕ} {xs ys zs : List ℕ} → Place b m xs → a + registerSize ≤ b → c + registerSize ≤ b → Laid b m (bitAt (register a m xs)) xs ys
+pub paired : (g : Bool → Bool → Bool) (a c : ℕ) {b m : ℕ} {xs ys zs : List ℕ} → Place b m xs → a + registerWords ≤ b → c + registerWords ≤ b → Laid b m (bitAt (register a m xs)) xs ys
     → Laid b m (both g (register b m ys) (register c m ys)) ys zs → Step b m (both g (register a m xs) (register c m xs)) xs zs
 paired g a c {b} {m} {xs} {ys} {zs} h l o p q =
     let i = h .node in let j = h .small in let k = h .enough in
@@ -120,7 +121,7 @@ pub register-put : (a k m : ℕ) (xs ys : List ℕ) → a ≤ length xs → m �
 register-put a k m xs ys h l =
     ap (take m) (drop-at (take a xs) (ys ++ drop k (drop a xs)) a (length-take-le a xs h)) ∙ take-append-le m ys (drop k (drop a xs)) l
 
-module _ (a c : ℕ) {b m : ℕ} {xs ys zs : List ℕ} (us : List ℕ) (h : Place b m xs) (l : a + registerSize ≤ b) (o : c + registerSize ≤ b)
+module _ (a c : ℕ) {b m : ℕ} {xs ys zs : List ℕ} (us : List ℕ) (h : Place b m xs) (l : a + registerWords ≤ b) (o : c + registerWords ≤ b)
     (p : Laid b m (bitAt (register c m xs)) xs ys) (q : Laid leftPlace m (bitAt (register a m ys)) ys zs)
     (n : length us ≡ length (midOf b (workPlace + m - b) zs)) where
   abbrev lentPart : List ℕ
@@ -187,15 +188,15 @@ module _ (a c : ℕ) {b m : ℕ} {xs ys zs : List ℕ} (us : List ℕ) (h : Plac
             ∙ sym (take-take b leftPlace (lay leftPlace m (bitAt (register a m ys)) ys) (omega arith)) ∙ ap (take b) (take-lay leftPlace m (bitAt (register a m ys)) ys fits-w)
             ∙ take-take b leftPlace ys (omega arith) ∙ laid-step h p .low;
         high =
-            past (putMid b (workPlace + m - b) zs us) ∙ ap (drop (registerSize - m)) (drop-put b (workPlace + m) zs us (omega arith) (omega (arith, long-z)) (n ∙ wide)) ∙ sym (past zs)
-            ∙ ap (drop scratchSize) (q .is) ∙ drop-lay leftPlace m (bitAt (register a m ys)) ys scratchSize fits-w (omega arith) ∙ laid-step h p .high;
+            past (putMid b (workPlace + m - b) zs us) ∙ ap (drop (registerWords - m)) (drop-put b (workPlace + m) zs us (omega arith) (omega (arith, long-z)) (n ∙ wide)) ∙ sym (past zs)
+            ∙ ap (drop scratchWords) (q .is) ∙ drop-lay leftPlace m (bitAt (register a m ys)) ys scratchWords fits-w (omega arith) ∙ laid-step h p .high;
       }
     where
-      past : (l : List ℕ) → drop scratchSize l ≡ drop (registerSize - m) (drop (workPlace + m) l)
+      past : (l : List ℕ) → drop scratchWords l ≡ drop (registerWords - m) (drop (workPlace + m) l)
       past l =
           let j = h .small in
-          let e : scratchSize ≡ workPlace + m + (registerSize - m) = omega arith in
-          ap (λ (i : ℕ). drop i l) e ∙ sym (drop-drop (registerSize - m) (workPlace + m) l)
+          let e : scratchWords ≡ workPlace + m + (registerWords - m) = omega arith in
+          ap (λ (i : ℕ). drop i l) e ∙ sym (drop-drop (registerWords - m) (workPlace + m) l)
 
   pub until-step : (lo hi : ℕ) → Interval lo hi
       → us ≡ pick (badInterval lo hi || misplaced (leftPlace - b) (workPlace - b) (length lentPart)) lentPart (untilLater (leftPlace - b) (workPlace - b) lo hi lentPart)

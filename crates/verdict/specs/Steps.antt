@@ -4,6 +4,7 @@ use mathlib.Core.Bool.{Bool, true, false, _||_, _&&_}
 use mathlib.Core.List.{List}
 use Prim.Native.Nat.{ℕ, _+_, _-_, _*_, _≤_, _<_}
 use lib.ListN.{length, getD, take, drop}
+use Rattle.limits.specs.Limits.{maxNodes, maxInterval, maxTrace, registerWords, scratchWords}
 use Rattle.lists.specs.Bits.{bit, words, bitAt, pack, packed, below}
 use Rattle.mltl.specs.Mltl.{holds, eventually, opposite}
 use Rattle.column.specs.Column.{register, filled, flipped}
@@ -15,43 +16,35 @@ use Rattle.table.specs.declared.Node.{Node}
 use Rattle.windows.specs.Windows.{untilOf, releaseOf}
 
 -- ---- where they lie
--- the words of a register: node i's begins at registerSize * i
-abbrev pub registerSize : ℕ
-registerSize = 80
-
--- after those of 64 nodes, for U and R: the register of the left operand, and one to work in
+-- node i's begins at registerWords * i; after those of 64 nodes, for U and R: the register of the left operand, and one to work in
 abbrev pub leftPlace : ℕ
-leftPlace = 64 * registerSize
+leftPlace = maxNodes * registerWords
 
 abbrev pub workPlace : ℕ
-workPlace = leftPlace + registerSize
-
--- the words of all registers
-abbrev pub scratchSize : ℕ
-scratchSize = workPlace + registerSize
+workPlace = leftPlace + registerWords
 
 -- a node's register at b, of which m words are used, in a scratch with room for all
 pub record Place (b m : ℕ) (xs : List ℕ) : Type 0 where
-  pub node : b + registerSize ≤ leftPlace
-  pub small : m ≤ registerSize
-  pub enough : scratchSize ≤ length xs
+  pub node : b + registerWords ≤ leftPlace
+  pub small : m ≤ registerWords
+  pub enough : scratchWords ≤ length xs
 
 -- the registers at a and b
 pub record Operand (a b m : ℕ) (xs : List ℕ) : Type 0 where
-  pub before : a + registerSize ≤ b
-  pub small : m ≤ registerSize
-  pub enough : b + registerSize ≤ length xs
+  pub before : a + registerWords ≤ b
+  pub small : m ≤ registerWords
+  pub enough : b + registerWords ≤ length xs
 
 -- ---- what stands in them
 -- an interval that is not refused
 abbrev pub Interval : ℕ → ℕ → Type 0
-Interval lo hi = (lo ≤ hi) × (hi ≤ 4095)
+Interval lo hi = (lo ≤ hi) × (hi ≤ maxInterval)
 
 -- ys holds the column f in its register at b; below b, and from the end of the registers on, it is xs
 pub record Step (b m : ℕ) (f : ℕ → Bool) (xs ys : List ℕ) : Type 0 where
   pub here : register b m ys ≡ pack m f
   pub low : take b ys ≡ take b xs
-  pub high : drop scratchSize ys ≡ drop scratchSize xs
+  pub high : drop scratchWords ys ≡ drop scratchWords xs
 
 -- a step where `on`, and nothing where not
 pub record Maybe (on : Bool) (b m : ℕ) (f : ℕ → Bool) (xs ys : List ℕ) : Type 0 where
@@ -74,13 +67,13 @@ nodeColumn Release x n states c d = releaseOf n (x .lo) (x .hi) (words n) c d
 
 -- the column of node x in a scratch xs
 abbrev pub columnIn : Node → ℕ → List ℕ → List ℕ → ℕ → Bool
-columnIn x n states xs = nodeColumn (opOf (x .kind)) x n states (register (registerSize * x .left) (words n) xs) (register (registerSize * x .right) (words n) xs)
+columnIn x n states xs = nodeColumn (opOf (x .kind)) x n states (register (registerWords * x .left) (words n) xs) (register (registerWords * x .right) (words n) xs)
 
 -- a node that can be computed at place i
 pub record Computable (i n : ℕ) (x : Node) (xs : List ℕ) : Type 0 where
-  pub place : i < 64
-  pub short : n ≤ 5120
-  pub enough : scratchSize ≤ length xs
+  pub place : i < maxNodes
+  pub short : n ≤ maxTrace
+  pub enough : scratchWords ≤ length xs
   pub fitting : fits i x ≡ true
 
 -- ---- marks of the nodes that are needed
@@ -99,23 +92,23 @@ pub record Needs (nodes : List Node) (k marks : ℕ) : Type 0 where
 
 -- the register of each marked one of the first k nodes holds its formula's verdicts, and from the end of the registers on ys is xs
 pub record Run (k : ℕ) (nodes : List Node) (marks : ℕ) (trace xs ys : List ℕ) : Type 0 where
-  pub at : (j : ℕ) → j < k → marked marks j ≡ true → register (registerSize * j) (words (length trace)) ys ≡ packed (length trace) (holds (formulaAt nodes j) trace)
-  pub high : drop scratchSize ys ≡ drop scratchSize xs
+  pub at : (j : ℕ) → j < k → marked marks j ≡ true → register (registerWords * j) (words (length trace)) ys ≡ packed (length trace) (holds (formulaAt nodes j) trace)
+  pub high : drop scratchWords ys ≡ drop scratchWords xs
 
 -- the first k nodes can be computed
 pub record Runnable (k : ℕ) (nodes : List Node) (marks : ℕ) (trace xs : List ℕ) : Type 0 where
   pub some : 0 < k
-  pub places : k ≤ 64
+  pub places : k ≤ maxNodes
   pub fitting : (i : ℕ) → i < k → fits i (getD nodes i noNode) ≡ true
-  pub short : length trace ≤ 5120
-  pub enough : scratchSize ≤ length xs
+  pub short : length trace ≤ maxTrace
+  pub enough : scratchWords ≤ length xs
   pub needs : Needs nodes (k - 1) marks
 
 -- the verdicts of node k at the first `count` ticks can be given
 pub record Ready (ns : List Node) (k : ℕ) (trace : List ℕ) (count : ℕ) (scratch out : List ℕ) : Type 0 where
-  pub place : k < 64
+  pub place : k < maxNodes
   pub fitting : (i : ℕ) → i < k + 1 → fits i (getD ns i noNode) ≡ true
-  pub short : length trace ≤ 5120
+  pub short : length trace ≤ maxTrace
   pub ticks : count ≤ length trace
-  pub scratch-words : scratchSize ≤ length scratch
+  pub scratch-words : scratchWords ≤ length scratch
   pub out-words : words count ≤ length out

@@ -5,6 +5,8 @@ use mathlib.Core.Bool.{Bool, _&&_, _||_}
 use mathlib.Core.List.{List, [], _∷_, _++_}
 use lib.Dec.{ltb, leb, eqb}
 use lib.ListN.{length, take, drop, replicate}
+use Rattle.limits.specs.Limits.{maxNodes, maxTrace, scratchWords}
+use Rattle.refusals.specs.Numbers.{STATES, BUFFER}
 use Rattle.lists.specs.Bits.{words, packed}
 use Rattle.lists.specs.Choice.{Row, pick, _if_, first}
 use Rattle.lists.specs.Sequence.{every}
@@ -18,18 +20,18 @@ use Rattle.table.specs.declared.Table.{Table}
 abbrev pub told : Formula → List ℕ → ℕ → List ℕ → List ℕ
 told f trace count out = packed count (holds f trace) ++ drop (words count) out
 
--- the first 5,280 words zero, and then the rest of the scratch
+-- the words of all registers zero, and then the rest of the scratch
 abbrev pub cleared : List ℕ → List ℕ
-cleared scratch = replicate 5280 0 ++ drop 5280 scratch
+cleared scratch = replicate scratchWords 0 ++ drop scratchWords scratch
 
 -- ---- the formula of the node at place k
 -- every node up to place k keeps the limits at its place
 abbrev pub fitsTo : Table → ℕ → Bool
-fitsTo t k = ltb k 64 && every fits 0 (take (k + 1) (t .nodes))
+fitsTo t k = ltb k maxNodes && every fits 0 (take (k + 1) (t .nodes))
 
--- at most 5,120 states, no more verdicts than states, and lent buffers of enough words
+-- not too many states, no more verdicts than states, and lent buffers of enough words
 abbrev pub enough : ℕ → ℕ → ℕ → ℕ → Bool
-enough states count scratch out = leb states 5120 && leb count states && leb 5280 scratch && leb (words count) out
+enough states count scratch out = leb states maxTrace && leb count states && leb scratchWords scratch && leb (words count) out
 
 unfoldable pub ready : Table → ℕ → List ℕ → ℕ → List ℕ → List ℕ → Bool
 ready t k trace count scratch out = fitsTo t k && enough (length trace) count (length scratch) (length out)
@@ -41,10 +43,10 @@ pub record Judged (t : Table) (k : ℕ) (trace : List ℕ) (count : ℕ) (scratc
   pub clears : scratch′ ≡ pick (ready t k trace count scratch out) (cleared scratch) scratch
 
 -- ---- the formula that a rule watches
--- its rows of refusals: those of a call for a rule, 22 too many states, 23 too few words lent
+-- its rows of refusals: those of a call for a rule, too many states, too few words lent
 abbrev pub wholeRows : Bool → ℕ → ℕ → ℕ → ℕ → ℕ → List Row
 wholeRows sound count rule states scratch out =
-    ruleRows sound count rule ++ ((22 if ltb 5120 states) ∷ (23 if (ltb scratch 5280 || ltb out (words states))) ∷ [])
+    ruleRows sound count rule ++ ((STATES if ltb maxTrace states) ∷ (BUFFER if (ltb scratch scratchWords || ltb out (words states))) ∷ [])
 
 unfoldable pub numberOf : Table → ℕ → ℕ → ℕ → ℕ → ℕ
 numberOf t rule states scratch out = first (wholeRows (isSound t) (t .«rule_count») rule states scratch out)

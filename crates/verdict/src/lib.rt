@@ -6,6 +6,7 @@ ghost use Prim.Native.Nat.{ℕ, _+_, _*_, _≤_, _<_};
 ghost use lib.Dec.{eqb};
 ghost use lib.ListN.{length};
 ghost use lib.Seq.{paste};
+ghost use Rattle.limits.specs.Limits.{maxNodes, registerWords};
 ghost use Rattle.lists.specs.Bits.{bitAt, words, below};
 ghost use Rattle.lists.specs.Choice.{pick, first};
 ghost use Rattle.mltl.specs.Mltl.{eventually, opposite};
@@ -15,20 +16,18 @@ ghost use Rattle.signal.specs.Signal.{signalColumn};
 ghost use Rattle.windows.specs.Windows.{untilOf, releaseOf};
 ghost use Rattle.verdict.specs.Verdict.{told, cleared, fitsTo, enough, Judged, wholeRows, Answered};
 ghost use Rattle.table.specs.Nodes.{formulaAt};
-ghost use Rattle.verdict.specs.Steps.{registerSize, Interval, Place, Operand, Step, Maybe, columnIn, Computable, Needs, Run, Runnable, Ready};
+ghost use Rattle.verdict.specs.Steps.{Interval, Place, Operand, Step, Maybe, columnIn, Computable, Needs, Run, Runnable, Ready};
+use limits::MAX_NODES;
+use limits::MAX_TRACE;
+use limits::REGISTER_WORDS;
+use limits::SCRATCH_WORDS;
 use table::Node;
 use table::Table;
 
-// The words of a register.
-const REGISTER: usize = 80;
+// For U and R two more registers follow those of the nodes: one for the left operand, and one to work in.
+const LEFT: usize = MAX_NODES * REGISTER_WORDS;
 
-// For U and R two more follow those of the 64 nodes: one for the left operand, and one to work in.
-const LEFT: usize = 64 * REGISTER;
-
-const WORK: usize = LEFT + REGISTER;
-
-// The words of all registers.
-const SCRATCH: usize = WORK + REGISTER;
+const WORK: usize = LEFT + REGISTER_WORDS;
 
 // ---- nodes: registers at a and c of the operands, at b of the node, of which m words are used
 
@@ -76,7 +75,7 @@ fn put_fill(s: &mut [u64], b: usize, m: usize, n: usize)
 }
 
 fn put_not(s: &mut [u64], a: usize, b: usize, m: usize, n: usize)
-    requires { ⌜ Place b m (now s) × (a + registerSize ≤ b) ⌝ }
+    requires { ⌜ Place b m (now s) × (a + registerWords ≤ b) ⌝ }
     ensures { λ _. ⌜ Step b m (flipped n (register a m (now (s .entry)))) (now (s .entry)) (now (s .exit)) ⌝ }
 {
     let e = b + m;
@@ -85,7 +84,7 @@ fn put_not(s: &mut [u64], a: usize, b: usize, m: usize, n: usize)
 }
 
 fn put_and(s: &mut [u64], a: usize, c: usize, b: usize, m: usize)
-    requires { ⌜ Place b m (now s) × (a + registerSize ≤ b) × (c + registerSize ≤ b) ⌝ }
+    requires { ⌜ Place b m (now s) × (a + registerWords ≤ b) × (c + registerWords ≤ b) ⌝ }
     ensures { λ _. ⌜ Step b m (both _&&_ (register a m (now (s .entry))) (register c m (now (s .entry)))) (now (s .entry)) (now (s .exit)) ⌝ }
 {
     load(s, a, b, m);
@@ -93,7 +92,7 @@ fn put_and(s: &mut [u64], a: usize, c: usize, b: usize, m: usize)
 }
 
 fn put_or(s: &mut [u64], a: usize, c: usize, b: usize, m: usize)
-    requires { ⌜ Place b m (now s) × (a + registerSize ≤ b) × (c + registerSize ≤ b) ⌝ }
+    requires { ⌜ Place b m (now s) × (a + registerWords ≤ b) × (c + registerWords ≤ b) ⌝ }
     ensures { λ _. ⌜ Step b m (both _||_ (register a m (now (s .entry))) (register c m (now (s .entry)))) (now (s .entry)) (now (s .exit)) ⌝ }
 {
     load(s, a, b, m);
@@ -101,7 +100,7 @@ fn put_or(s: &mut [u64], a: usize, c: usize, b: usize, m: usize)
 }
 
 fn put_some(s: &mut [u64], a: usize, b: usize, m: usize, lo: u16, hi: u16)
-    requires { ⌜ Place b m (now s) × (a + registerSize ≤ b) × Interval lo hi ⌝ }
+    requires { ⌜ Place b m (now s) × (a + registerWords ≤ b) × Interval lo hi ⌝ }
     ensures { λ _. ⌜ Step b m (eventually (64 * m) lo hi (bitAt (register a m (now (s .entry))))) (now (s .entry)) (now (s .exit)) ⌝ }
 {
     let e = b + m;
@@ -110,7 +109,7 @@ fn put_some(s: &mut [u64], a: usize, b: usize, m: usize, lo: u16, hi: u16)
 }
 
 fn put_all(s: &mut [u64], a: usize, b: usize, m: usize, lo: u16, hi: u16, n: usize)
-    requires { ⌜ Place b m (now s) × (a + registerSize ≤ b) × Interval lo hi ⌝ }
+    requires { ⌜ Place b m (now s) × (a + registerWords ≤ b) × Interval lo hi ⌝ }
     ensures { λ _. ⌜ Step b m (below n (opposite (eventually (64 * m) lo hi (flipped n (register a m (now (s .entry))))))) (now (s .entry)) (now (s .exit)) ⌝ }
 {
     let e = b + m;
@@ -119,7 +118,7 @@ fn put_all(s: &mut [u64], a: usize, b: usize, m: usize, lo: u16, hi: u16, n: usi
 }
 
 fn put_until(s: &mut [u64], a: usize, c: usize, b: usize, m: usize, lo: u16, hi: u16)
-    requires { ⌜ Place b m (now s) × (a + registerSize ≤ b) × (c + registerSize ≤ b) × Interval lo hi ⌝ }
+    requires { ⌜ Place b m (now s) × (a + registerWords ≤ b) × (c + registerWords ≤ b) × Interval lo hi ⌝ }
     ensures { λ _. ⌜ Step b m (untilOf lo hi m (register a m (now (s .entry))) (register c m (now (s .entry)))) (now (s .entry)) (now (s .exit)) ⌝ }
 {
     let e = WORK + m;
@@ -129,7 +128,7 @@ fn put_until(s: &mut [u64], a: usize, c: usize, b: usize, m: usize, lo: u16, hi:
 }
 
 fn put_release(s: &mut [u64], a: usize, c: usize, b: usize, m: usize, lo: u16, hi: u16, n: usize)
-    requires { ⌜ Place b m (now s) × (a + registerSize ≤ b) × (c + registerSize ≤ b) × Interval lo hi ⌝ }
+    requires { ⌜ Place b m (now s) × (a + registerWords ≤ b) × (c + registerWords ≤ b) × Interval lo hi ⌝ }
     ensures { λ _. ⌜ Step b m (releaseOf n lo hi m (register a m (now (s .entry))) (register c m (now (s .entry)))) (now (s .entry)) (now (s .exit)) ⌝ }
 {
     let e = WORK + m;
@@ -148,12 +147,12 @@ fn bits_of(kind: u8, n: usize) -> usize
 // The column of node x at place i, whose kind is F, G, U or R. No state is read.
 fn window_step(s: &mut [u64], x: Node, i: usize, n: usize)
     requires { ⌜ Computable i n x (now s) × (7 ≤ x .kind) × (x .kind ≤ 10) ⌝ }
-    ensures { λ _. ⌜ ((states : List ℕ) → Step (registerSize * i) (words n) (columnIn x n states (now (s .entry))) (now (s .entry)) (now (s .exit))) ⌝ }
+    ensures { λ _. ⌜ ((states : List ℕ) → Step (registerWords * i) (words n) (columnIn x n states (now (s .entry))) (now (s .entry)) (now (s .exit))) ⌝ }
 {
     let m = (n + 63) / 64;
-    let b = REGISTER * i;
-    let a = REGISTER * (x.left as usize);
-    let c = REGISTER * (x.right as usize);
+    let b = REGISTER_WORDS * i;
+    let a = REGISTER_WORDS * (x.left as usize);
+    let c = REGISTER_WORDS * (x.right as usize);
     let k = x.kind;
     let lo = x.lo;
     let hi = x.hi;
@@ -175,12 +174,12 @@ fn window_step(s: &mut [u64], x: Node, i: usize, n: usize)
 // The column of node x at place i, of any kind but a signal. No state is read.
 fn stateless_step(s: &mut [u64], x: Node, i: usize, n: usize)
     requires { ⌜ Computable i n x (now s) × (x .kind ≡ 1 → ⊥) ⌝ }
-    ensures { λ _. ⌜ ((states : List ℕ) → Step (registerSize * i) (words n) (columnIn x n states (now (s .entry))) (now (s .entry)) (now (s .exit))) ⌝ }
+    ensures { λ _. ⌜ ((states : List ℕ) → Step (registerWords * i) (words n) (columnIn x n states (now (s .entry))) (now (s .entry)) (now (s .exit))) ⌝ }
 {
     let m = (n + 63) / 64;
-    let b = REGISTER * i;
-    let a = REGISTER * (x.left as usize);
-    let c = REGISTER * (x.right as usize);
+    let b = REGISTER_WORDS * i;
+    let a = REGISTER_WORDS * (x.left as usize);
+    let c = REGISTER_WORDS * (x.right as usize);
     let k = x.kind;
     if (7 <= k) & (k <= 10) {
         window_step(s, x, i, n);
@@ -204,10 +203,10 @@ fn stateless_step(s: &mut [u64], x: Node, i: usize, n: usize)
 // The column of node x at place i.
 fn node_step(s: &mut [u64], x: Node, i: usize, n: usize, older: &[u32], newer: &[u32])
     requires { ⌜ Computable i n x (now s) ⌝ }
-    ensures { λ _. ⌜ Step (registerSize * i) (words n) (columnIn x n (now (older .entry) ++ now (newer .entry)) (now (s .entry))) (now (s .entry)) (now (s .exit)) ⌝ }
+    ensures { λ _. ⌜ Step (registerWords * i) (words n) (columnIn x n (now (older .entry) ++ now (newer .entry)) (now (s .entry))) (now (s .entry)) (now (s .exit)) ⌝ }
 {
     let m = (n + 63) / 64;
-    let b = REGISTER * i;
+    let b = REGISTER_WORDS * i;
     if x.kind == 1 {
         put_signal(s, b, m, older, newer, x.arg);
         return;
@@ -218,7 +217,7 @@ fn node_step(s: &mut [u64], x: Node, i: usize, n: usize, older: &[u32], newer: &
 // The column of node x at place i, where `on`.
 fn step_if(on: bool, s: &mut [u64], x: Node, i: usize, n: usize, older: &[u32], newer: &[u32])
     requires { ⌜ Computable i n x (now s) ⌝ }
-    ensures { λ _. ⌜ Maybe on (registerSize * i) (words n) (columnIn x n (now (older .entry) ++ now (newer .entry)) (now (s .entry))) (now (s .entry)) (now (s .exit)) ⌝ }
+    ensures { λ _. ⌜ Maybe on (registerWords * i) (words n) (columnIn x n (now (older .entry) ++ now (newer .entry)) (now (s .entry))) (now (s .entry)) (now (s .exit)) ⌝ }
 {
     if on {
         node_step(s, x, i, n, older, newer);
@@ -229,7 +228,7 @@ fn step_if(on: bool, s: &mut [u64], x: Node, i: usize, n: usize, older: &[u32], 
 
 // The marks of the nodes that node k needs.
 fn marks_for(t: Table, k: usize) -> u64
-    requires { ⌜ k < 64 ⌝ }
+    requires { ⌜ k < maxNodes ⌝ }
     ensures { λ r. ⌜ Needs (t .nodes) k r ⌝ }
 {
     let nodes = t.nodes;
@@ -274,16 +273,16 @@ fn evaluate(
     let m = (count + 63) / 64;
     let marks = marks_for(t, k);
     run(t, marks, k + 1, older, newer, scratch);
-    copy_out(scratch, REGISTER * k, m, out);
+    copy_out(scratch, REGISTER_WORDS * k, m, out);
     column::keep_below(&mut out[0..m], count);
-    column::clear(&mut scratch[0..SCRATCH]);
+    column::clear(&mut scratch[0..SCRATCH_WORDS]);
 }
 
 // Whether every node up to place k keeps the limits at its place.
 fn fits_to(t: Table, k: usize) -> bool
     ensures { λ r. ⌜ r ≡ fitsTo t k ⌝ }
 {
-    if 64 <= k {
+    if MAX_NODES <= k {
         return false;
     }
     let e = k + 1;
@@ -298,16 +297,16 @@ fn fits_to(t: Table, k: usize) -> bool
 fn has_enough(older: usize, newer: usize, count: usize, scratch: usize, out: usize) -> bool
     ensures { λ r. ⌜ r ≡ enough (older + newer) count scratch out ⌝ }
 {
-    if 5120 < older {
+    if MAX_TRACE < older {
         return false;
     }
-    if 5120 - older < newer {
+    if MAX_TRACE - older < newer {
         return false;
     }
     if older + newer < count {
         return false;
     }
-    (SCRATCH <= scratch) & ((count + 63) / 64 <= out)
+    (SCRATCH_WORDS <= scratch) & ((count + 63) / 64 <= out)
 }
 
 // The verdicts of the node at place k at the first `count` ticks of the trace `older` and then `newer`, which are read where they lie;
@@ -350,10 +349,11 @@ fn whole_number(
 ) -> u8
     ensures { λ r. ⌜ r ≡ first (wholeRows sound count rule states scratch out) ⌝ }
 {
-    let f23 = lists::either((scratch < 5280) | (out < words_of(states)), 23, 0);
-    let f22 = lists::either(5120 < states, 22, f23);
-    let f21 = lists::either(count <= rule, 21, f22);
-    lists::either(!sound, 25, f21)
+    let short = (scratch < SCRATCH_WORDS) | (out < words_of(states));
+    let buffer = lists::either(short, refusals::BUFFER, 0);
+    let many = lists::either(MAX_TRACE < states, refusals::STATES, buffer);
+    let absent = lists::either(count <= rule, refusals::ABSENT, many);
+    lists::either(!sound, refusals::UNSOUND, absent)
 }
 
 // The verdicts of what a rule watches on a whole trace: 0, or the number of the refusal.

@@ -5,6 +5,7 @@ use mathlib.Core.Bool.{Bool, true, false, not}
 use mathlib.Core.List.{List, [], _∷_, _++_}
 use lib.Dec.{eqb}
 use lib.ListN.{length, take, drop}
+use Rattle.limits.specs.Limits.{maxBlock, maxSeen}
 use Rattle.table.specs.declared.Table.{Table}
 use Rattle.book.specs.Entries.{Bytes}
 use Rattle.book.specs.Reading.{reading}
@@ -37,9 +38,9 @@ Begins t p = (book : List ℕ) → Bytes book → reading book .number ≡ 0 →
 
 -- where a step may begin
 pub record Ready (p : Progress) : Type 0 where
-  pub room : p .count < 1024
+  pub room : p .count < maxBlock
   pub ticks : p .tick ≤ p .session .seen
-  pub counted : p .session .seen ≤ 4294967295
+  pub counted : p .session .seen ≤ maxSeen
 
 -- a feed of the states that wait: h and block are what history and block held, h' and text what history and text hold then
 pub record Fed (p : Progress) (at : ℕ) (h block h' text : List ℕ) (r : Outcome) : Type 0 where
@@ -47,7 +48,7 @@ pub record Fed (p : Progress) (at : ℕ) (h block h' text : List ℕ) (r : Outco
   pub line : r .progress .line ≡ p .line
   pub ready : r .progress .going ≡ true → (r .progress .count ≡ 0) × Ready (r .progress)
   pub right : (m : Start) (read shown : List ℕ) → Runs m false read shown p h block
-      → Follows m (not (eqb (p .count) 1024)) read (shown ++ take (r .used) text) (r .progress) h' block
+      → Follows m (not (eqb (p .count) maxBlock)) read (shown ++ take (r .used) text) (r .progress) h' block
 
 -- a step over bytes of a part, from a place on
 pub record Steps (p : Progress) (part : List ℕ) (at : ℕ) (h block h' block' text : List ℕ) (r : Outcome) : Type 0 where

@@ -2,14 +2,26 @@
 // of the book's first rule.
 use libc::STDIN_FILENO;
 use libc::STDOUT_FILENO;
+use limits::BOOK_BYTES;
+use limits::CLOSE_WORDS;
+use limits::HISTORY_WORDS;
+use limits::MAX_BLOCK;
+use limits::SCRATCH_WORDS;
 use lines::Line;
+use rows::TEXT_BYTES;
 use session::Session;
 use table::Table;
 ghost use mathlib.Core.Path.{_≡_};
 ghost use mathlib.Core.Bool.{false};
 ghost use Prim.Native.Nat.{_≤_, _<_};
 ghost use lib.ListN.{length};
+ghost use Rattle.limits.specs.Limits.{maxBlock, maxSeen};
 ghost use Rattle.watch.specs.Steps.{Ready, ReadyIfGoing, Begins, Fed, Steps, Closes, Consumed, Completed};
+
+// The room for a book has a byte more than the longest, to show a longer one; a count above it stands for a book that cannot be read.
+const ROOM: usize = BOOK_BYTES + 1;
+
+const UNREADABLE: usize = ROOM + 1;
 
 // What is kept from one part of the input to the next: the session, the rule's name, the line so far, how many states wait in the block, the tick of
 // the next verdict, and whether the program goes on.
@@ -35,12 +47,12 @@ fn step(
     part: &[u8],
     at: usize,
     block: &mut [u32],
-    history: &mut [u32; 4095],
-    scratch: &mut [u64; 5280],
-    out: &mut [u64; 64],
-    text: &mut [u8; 131072],
+    history: &mut [u32; HISTORY_WORDS],
+    scratch: &mut [u64; SCRATCH_WORDS],
+    out: &mut [u64; CLOSE_WORDS],
+    text: &mut [u8; TEXT_BYTES],
 ) -> Outcome
-    requires { ⌜ Ready p × (length (now block) ≡ 1024) ⌝ }
+    requires { ⌜ Ready p × (length (now block) ≡ maxBlock) ⌝ }
     ensures { λ r. ⌜ Steps p (now (part .entry)) at (now (history .entry)) (now (block .entry)) (now (history .exit)) (now (block .exit)) (now (text .exit)) r ⌝ }
 {
     let line = p.line;
@@ -70,7 +82,7 @@ fn step(
         tick: p.tick,
         going: true,
     };
-    if f.count < 1024 {
+    if f.count < MAX_BLOCK {
         return Outcome {
             progress: next,
             at: f.at,
@@ -85,12 +97,12 @@ fn feed(
     p: Progress,
     at: usize,
     block: &[u32],
-    history: &mut [u32; 4095],
-    scratch: &mut [u64; 5280],
-    out: &mut [u64; 64],
-    text: &mut [u8; 131072],
+    history: &mut [u32; HISTORY_WORDS],
+    scratch: &mut [u64; SCRATCH_WORDS],
+    out: &mut [u64; CLOSE_WORDS],
+    text: &mut [u8; TEXT_BYTES],
 ) -> Outcome
-    requires { ⌜ (p .count ≤ 1024) × (p .tick ≤ p .session .seen) × (p .session .seen ≤ 4294967295) × (length (now block) ≡ 1024) ⌝ }
+    requires { ⌜ (p .count ≤ maxBlock) × (p .tick ≤ p .session .seen) × (p .session .seen ≤ maxSeen) × (length (now block) ≡ maxBlock) ⌝ }
     ensures { λ r. ⌜ Fed p at (now (history .entry)) (now (block .entry)) (now (history .exit)) (now (text .exit)) r ⌝ }
 {
     let session = p.session;
@@ -130,12 +142,12 @@ fn feed(
 // Closes the session.
 fn close(
     p: Progress,
-    history: &[u32; 4095],
-    scratch: &mut [u64; 5280],
-    out: &mut [u64; 64],
-    text: &mut [u8; 131072],
+    history: &[u32; HISTORY_WORDS],
+    scratch: &mut [u64; SCRATCH_WORDS],
+    out: &mut [u64; CLOSE_WORDS],
+    text: &mut [u8; TEXT_BYTES],
 ) -> usize
-    requires { ⌜ p .session .seen ≤ 4294967295 ⌝ }
+    requires { ⌜ p .session .seen ≤ maxSeen ⌝ }
     ensures { λ r. ⌜ Closes p (now (history .entry)) (now (text .exit)) r ⌝ }
 {
     let session = p.session;
@@ -180,12 +192,12 @@ fn consume(
     first: Progress,
     part: &[u8],
     block: &mut [u32],
-    history: &mut [u32; 4095],
-    scratch: &mut [u64; 5280],
-    out: &mut [u64; 64],
-    text: &mut [u8; 131072],
+    history: &mut [u32; HISTORY_WORDS],
+    scratch: &mut [u64; SCRATCH_WORDS],
+    out: &mut [u64; CLOSE_WORDS],
+    text: &mut [u8; TEXT_BYTES],
 ) -> Progress
-    requires { ⌜ Ready first × (length (now block) ≡ 1024) ⌝ }
+    requires { ⌜ Ready first × (length (now block) ≡ maxBlock) ⌝ }
     ensures { λ r. ⌜ Consumed first (now (part .entry)) (now (history .entry)) (now (block .entry)) (now (history .exit)) (now (block .exit)) r ⌝ }
 {
     let mut p = first;
@@ -209,12 +221,12 @@ fn consume(
 fn run(
     first: Progress,
     block: &mut [u32],
-    history: &mut [u32; 4095],
-    scratch: &mut [u64; 5280],
-    out: &mut [u64; 64],
-    text: &mut [u8; 131072],
+    history: &mut [u32; HISTORY_WORDS],
+    scratch: &mut [u64; SCRATCH_WORDS],
+    out: &mut [u64; CLOSE_WORDS],
+    text: &mut [u8; TEXT_BYTES],
 ) -> Progress
-    requires { ⌜ Ready first × (length (now block) ≡ 1024) ⌝ }
+    requires { ⌜ Ready first × (length (now block) ≡ maxBlock) ⌝ }
     ensures { λ r. ⌜ ReadyIfGoing r ⌝ }
 {
     let mut buf = io::large_buffer();
@@ -243,12 +255,12 @@ fn run(
 fn last_line(
     p: Progress,
     block: &mut [u32],
-    history: &mut [u32; 4095],
-    scratch: &mut [u64; 5280],
-    out: &mut [u64; 64],
-    text: &mut [u8; 131072],
+    history: &mut [u32; HISTORY_WORDS],
+    scratch: &mut [u64; SCRATCH_WORDS],
+    out: &mut [u64; CLOSE_WORDS],
+    text: &mut [u8; TEXT_BYTES],
 ) -> Progress
-    requires { ⌜ Ready p × (length (now block) ≡ 1024) ⌝ }
+    requires { ⌜ Ready p × (length (now block) ≡ maxBlock) ⌝ }
     ensures { λ r. ⌜ Completed p (now (history .entry)) (now (block .entry)) (now (history .exit)) (now (block .exit)) r ⌝ }
 {
     let line = p.line;
@@ -267,12 +279,12 @@ fn last_line(
 fn finish(
     first: Progress,
     block: &mut [u32],
-    history: &mut [u32; 4095],
-    scratch: &mut [u64; 5280],
-    out: &mut [u64; 64],
-    text: &mut [u8; 131072],
+    history: &mut [u32; HISTORY_WORDS],
+    scratch: &mut [u64; SCRATCH_WORDS],
+    out: &mut [u64; CLOSE_WORDS],
+    text: &mut [u8; TEXT_BYTES],
 )
-    requires { ⌜ Ready first × (length (now block) ≡ 1024) ⌝ }
+    requires { ⌜ Ready first × (length (now block) ≡ maxBlock) ⌝ }
 {
     let p = last_line(first, block, history, scratch, out, text);
     if !p.going {
@@ -312,20 +324,20 @@ fn begin(t: Table) -> Progress
 }
 
 // Watches the first rule of a table that was read.
-fn watch(t: Table, text: &mut [u8; 131072]) {
+fn watch(t: Table, text: &mut [u8; TEXT_BYTES]) {
     let p = begin(t);
-    let mut block = [0u32; 1024];
-    let mut history = [0u32; 4095];
-    let mut scratch = [0u64; 5280];
-    let mut out = [0u64; 64];
+    let mut block = [0u32; MAX_BLOCK];
+    let mut history = [0u32; HISTORY_WORDS];
+    let mut scratch = [0u64; SCRATCH_WORDS];
+    let mut out = [0u64; CLOSE_WORDS];
     let last = run(p, &mut block, &mut history, &mut scratch, &mut out, text);
     if last.going {
         finish(last, &mut block, &mut history, &mut scratch, &mut out, text);
     }
 }
 
-// The book in rules.bin, which counts as empty if it is missing: how many bytes it has, or 4,096 if it cannot be read. The buffer has a byte more than
-// the longest book, to show a longer one; one more read tells an end from a failure.
+// The book in rules.bin, which counts as empty if it is missing: how many bytes it has, or more than the buffer has if it cannot be read. One more
+// read tells an end from a failure.
 fn load(book: &mut [u8]) -> usize {
     let name = b"rules.bin";
     let fd = os::open_read(name);
@@ -334,32 +346,32 @@ fn load(book: &mut [u8]) -> usize {
             return 0;
         }
         os::fail(name);
-        return 4096;
+        return UNREADABLE;
     }
     let n = io::read_full(fd, book);
     let mut byte = [0u8; 1];
     let more = libc::read(fd, &mut byte);
     if more < 0 {
         os::fail(name);
-        return 4096;
+        return UNREADABLE;
     }
     libc::close(fd);
     n
 }
 
 // A refused book.
-fn tell(number: u8, place: u8, text: &mut [u8; 131072]) {
+fn tell(number: u8, place: u8, text: &mut [u8; TEXT_BYTES]) {
     let used = rows::put_book(text, number, place);
     write(text, used);
 }
 
 fn main() {
-    let mut bytes = [0u8; 3061];
+    let mut bytes = [0u8; ROOM];
     let n = load(&mut bytes);
-    if n > 3061 {
+    if n > ROOM {
         return;
     }
-    let mut text = [0u8; 131072];
+    let mut text = [0u8; TEXT_BYTES];
     let reading = book::read(&bytes[..n]);
     if reading.number != 0 {
         tell(reading.number, reading.record, &mut text);

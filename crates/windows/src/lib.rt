@@ -3,6 +3,7 @@ ghost use mathlib.Core.Path.{_≡_};
 ghost use mathlib.Core.Bool.{_||_};
 ghost use Prim.Native.Nat.{ℕ, _+_, _-_, _^_, _≤_, _<_};
 ghost use lib.ListN.{length, getD};
+ghost use Rattle.limits.specs.Limits.{maxParts};
 ghost use Rattle.lists.specs.Bits.{bitAt};
 ghost use Rattle.lists.specs.Choice.{pick};
 ghost use Rattle.interval.specs.Parts.{badInterval};
@@ -10,13 +11,7 @@ ghost use Rattle.column.specs.Column.{register, flipped};
 ghost use Rattle.moves.specs.Moves.{moved};
 ghost use Rattle.windows.specs.Windows.{someLater, allLater, third, misplaced, untilOf, all, untilLater, releaseLater};
 ghost use Rattle.windows.specs.Steps.{widthOf, Eventually, Two, Three, untilParts};
-
-// Whether [lo, hi] is refused: lo above hi, or hi above 4,095.
-fn bad_interval(lo: u16, hi: u16) -> bool
-    ensures { λ r. ⌜ r ≡ badInterval lo hi ⌝ }
-{
-    (hi < lo) | (4095 < hi)
-}
+use limits::MAX_PARTS;
 
 // ---- F and G: one register, the whole slice
 
@@ -31,8 +26,8 @@ fn some_within(s: &mut [u64], k: usize)
 }
 
 // The windows are widened by 2 ^ k - 1 bits for each of the first `count` parts k.
-fn widen(s: &mut [u64], ks: [u8; 12], count: usize)
-    requires { ⌜ (count ≤ 12) × ((i : ℕ) → i < count → getD ks i 0 < 64) ⌝ }
+fn widen(s: &mut [u64], ks: [u8; MAX_PARTS], count: usize)
+    requires { ⌜ (count ≤ maxParts) × ((i : ℕ) → i < count → getD ks i 0 < 64) ⌝ }
     ensures { λ _. ⌜ Eventually 0 (widthOf count ks) (now (s .entry)) (now (s .exit)) ⌝ }
 {
     for i in 0..count {
@@ -45,7 +40,7 @@ fn widen(s: &mut [u64], ks: [u8; 12], count: usize)
 pub fn some_later(s: &mut [u64], lo: u16, hi: u16)
     ensures { λ _. ⌜ now (s .exit) ≡ pick (badInterval lo hi) (now (s .entry)) (someLater lo hi (now (s .entry))) ⌝ }
 {
-    if bad_interval(lo, hi) {
+    if interval::bad_interval(lo, hi) {
         return;
     }
     let cut = interval::split(lo, hi);
@@ -59,7 +54,7 @@ pub fn some_later(s: &mut [u64], lo: u16, hi: u16)
 pub fn all_later(s: &mut [u64], lo: u16, hi: u16, n: usize)
     ensures { λ _. ⌜ now (s .exit) ≡ pick (badInterval lo hi) (now (s .entry)) (allLater lo hi n (now (s .entry))) ⌝ }
 {
-    if bad_interval(lo, hi) {
+    if interval::bad_interval(lo, hi) {
         return;
     }
     column::complement(s, n);
@@ -97,9 +92,9 @@ fn misplaced(len: usize, d: usize, e: usize) -> bool
 }
 
 // The first register's windows are widened by 2 ^ k - 1 bits for each of the first `count` parts k, where the second is set before.
-fn until_parts(s: &mut [u64], d: usize, e: usize, ks: [u8; 12], count: usize)
+fn until_parts(s: &mut [u64], d: usize, e: usize, ks: [u8; MAX_PARTS], count: usize)
     requires { ⌜ Three d e (now s) ⌝ }
-    requires { ⌜ (count ≤ 12) × ((i : ℕ) → i < count → getD ks i 0 < 64) ⌝ }
+    requires { ⌜ (count ≤ maxParts) × ((i : ℕ) → i < count → getD ks i 0 < 64) ⌝ }
     ensures { λ _. ⌜ now (s .exit) ≡ untilParts d e count ks (now (s .entry)) ⌝ }
 {
     for i in 0..count {
@@ -136,7 +131,7 @@ fn two_flipped(s: &mut [u64], d: usize, e: usize, n: usize)
 pub fn until_later(s: &mut [u64], d: usize, e: usize, lo: u16, hi: u16)
     ensures { λ _. ⌜ now (s .exit) ≡ pick (badInterval lo hi || misplaced d e (length (now (s .entry)))) (now (s .entry)) (untilLater d e lo hi (now (s .entry))) ⌝ }
 {
-    if bad_interval(lo, hi) | misplaced(s.len(), d, e) {
+    if interval::bad_interval(lo, hi) | misplaced(s.len(), d, e) {
         return;
     }
     let cut = interval::split(lo, hi);
@@ -150,7 +145,7 @@ pub fn until_later(s: &mut [u64], d: usize, e: usize, lo: u16, hi: u16)
 pub fn release_later(s: &mut [u64], d: usize, e: usize, lo: u16, hi: u16, n: usize)
     ensures { λ _. ⌜ now (s .exit) ≡ pick (badInterval lo hi || misplaced d e (length (now (s .entry)))) (now (s .entry)) (releaseLater d e lo hi n (now (s .entry))) ⌝ }
 {
-    if bad_interval(lo, hi) | misplaced(s.len(), d, e) {
+    if interval::bad_interval(lo, hi) | misplaced(s.len(), d, e) {
         return;
     }
     let m = s.len() - e;

@@ -1,7 +1,7 @@
 -- The loop along the chain: its invariant is `Going`, and its measure the number of records that are not passed. Assumes nothing.
 use Prim.Native.Nat.{_≤_}
 use mathlib.Core.Path.{sym, _∙_}
-use Rattle.builder.specs.Adding.{largestName}
+use Rattle.limits.specs.Limits.{maxName}
 use Rattle.book.specs.Entries.{nameOf}
 use Rattle.book.proofs.Tests.{head-clear}
 use borrow.Author.Needs.{needs}
@@ -30,7 +30,7 @@ entry-of-requires-2 : tie.Need-entry-of-requires-2 Inv-loop μ-loop
 entry-of-requires-2 c κs = inside (c .before .before .loop .inv .at) (c .before .loop-test .taken)
 
 -- the name of a record of bytes
-small : (c : tie.After-entry-of2 Inv-loop μ-loop) → nameOf (c .entry-of2 .result) ≤ largestName
+small : (c : tie.After-entry-of2 Inv-loop μ-loop) → nameOf (c .entry-of2 .result) ≤ maxName
 small c =
     let l = c .before .before .before in
     let k = l .before .before .before .before .before in

@@ -48,7 +48,7 @@ keeps c κs =
     let q : c .lesser2 .result ≡ min (a .s .seen + length (a .block .now)) (a .d) = c .lesser2 .ensures in
     (omega (arith, p, q), omega (arith, p, q), omega (arith, q), f, omega arith)
 
-fits : tie.Need-cast-t31
+fits : tie.Need-cast-with-seen
 fits c =
     let k = c .before .before in
     let l = k .before .before .before .before .before .before .before .before .before .before .before .before .before .before in
@@ -56,15 +56,16 @@ fits c =
 
 returns : tie.Need-returns
 returns c =
-    let k = c .before .before in
+    let k = c .before .before .before in
     let w = k .before .before .before .before .before .before .before in
     let o = w .before .before .before .before .before in
     let l = o .before .before in
-    feed-is (start l .pre) (l .lesser .ensures) (o .before .over .ensures) (o .over2 .ensures) (k .before .lesser2 .ensures) (lent-part (l .lesser .result) (start l .args .history .now)) (w .write-verdicts .ensures) (k .keep .ensures)
+    rw (c .with-seen .ensures)
+    (feed-is (start l .pre) (l .lesser .ensures) (o .before .over .ensures) (o .over2 .ensures) (k .before .lesser2 .ensures) (lent-part (l .lesser .result) (start l .args .history .now)) (w .write-verdicts .ensures) (k .keep .ensures))
 
 pub advance-spec : {M : Type 1} → statement M
 advance-spec =
     tie.close
     (tie.spec (λ c. omega (arith, fit-rule (c .before .before .before .before .before .pre .fit))) (λ c. fit-rule (c .before .before .before .before .before .pre .fit))
     (λ c. omega (arith, fit-node (c .before .before .before .before .before .pre .fit))) (search needs) after (search needs) (search needs) (search needs) count (search needs) (search needs) end writes
-    (search needs) keeps fits (search needs) (search needs) (search needs) returns)
+    (search needs) keeps fits (search needs) (search needs) (search needs) (search needs) returns)

@@ -25,13 +25,14 @@ writes c κs =
 
 returns : tie.Need-returns
 returns c =
-    let w = c .before .before .before .before in
+    let w = c .before .before .before .before .before in
     let l = w .before .before .before .before .before in
-    close-is (start l .pre) (l .lesser .ensures) (lent-part (l .lesser .result) (start l .args .history .now)) refl (w .write-verdicts .ensures)
+    rw (c .with-seen .ensures)
+    (close-is (start l .pre) (l .lesser .ensures) (lent-part (l .lesser .result) (start l .args .history .now)) refl (w .write-verdicts .ensures))
 
 pub finish-spec : {M : Type 1} → statement M
 finish-spec =
     tie.close
     (tie.spec (λ c. omega (arith, fit-rule (c .before .before .before .before .pre .fit))) (λ c. fit-rule (c .before .before .before .before .pre .fit))
     (λ c. omega (arith, fit-node (c .before .before .before .before .pre .fit))) (search needs) (search needs) (search needs) (search needs) end (search needs) (search needs) (search needs) writes
-    (search needs) (search needs) returns)
+    (search needs) (search needs) (search needs) returns)

@@ -5,11 +5,12 @@ use mathlib.Core.Path.{ap, refl, subst, _∙_}
 use borrow.Author.Needs.{needs}
 use borrow.Author.Tests.{leb-true}
 use lib.Dec.{leb}
+use Rattle.limits.specs.Limits.{registerWords}
 use Rattle.lists.proofs.Tests.{true-left, true-right}
 use Rattle.lists.specs.Bits.{words}
 use Rattle.column.specs.Column.{filled, register}
 use Rattle.verdict.proofs.Nodes.{apart, fit-as, other, place-of}
-use Rattle.verdict.specs.Steps.{registerSize, Step}
+use Rattle.verdict.specs.Steps.{Step}
 use Rattle.verdict.proofs.stateless_step.Statement.{statement}
 use Rattle.verdict.proofs.stateless_step.Tie as tie
 
@@ -48,10 +49,10 @@ returns-5 c states =
     let o = e .before .before .before .before .before .before .before in
     let a = o .args in
     let m : ℕ = words (a .n) in
-    subst (λ (f : ℕ → Bool). Step (registerSize * a .i) m f (a .s .now) (c .before .before .put-fill .last .0))
+    subst (λ (f : ℕ → Bool). Step (registerWords * a .i) m f (a .s .now) (c .before .before .put-fill .last .0))
     (ap filled (b .bits-of .ensures)
     ∙ other (a .x .kind) (o .pre .1) (e .before .before .if2 .left) (e .before .if3 .left) (e .if4 .left) (e .before .before .before .if1 .left)
-    (a .x) (a .n) states (register (registerSize * a .x .left) m (a .s .now)) (register (registerSize * a .x .right) m (a .s .now)))
+    (a .x) (a .n) states (register (registerWords * a .x .left) m (a .s .now)) (register (registerWords * a .x .right) m (a .s .now)))
     (c .before .before .put-fill .ensures)
 
 pub stateless-step-spec : {M : Type 1} → statement M

@@ -11,8 +11,8 @@ returns c =
 
 returns-2 : tie.Need-returns-2
 returns-2 c =
-    let d = c .before .before in
-    open-accepted (d .before .args .table) (d .before .args .rule) (d .delay .ensures) (c .if1 .left)
+    let d = c .before .before .before in
+    rw (c .with .ensures) (open-accepted (d .before .args .table) (d .before .args .rule) (d .delay .ensures) (c .before .if1 .left))
 
 pub open-spec : {M : Type 1} → statement M
-open-spec = tie.close (tie.spec (search needs) (search needs) returns returns-2)
+open-spec = tie.close (tie.spec (search needs) (search needs) returns (search needs) returns-2)

@@ -1,0 +1,2 @@
+-- every limit and size by its name
+pub mod Limits

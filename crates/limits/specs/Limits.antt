@@ -1,0 +1,73 @@
+-- Document 01's limits and sizes.
+use Prim.Native.Nat.{ℕ, _+_, _*_}
+
+-- ---- tables
+abbrev pub maxNodes : ℕ
+maxNodes = 64
+
+abbrev pub maxRules : ℕ
+maxRules = 8
+
+abbrev pub maxSignal : ℕ
+maxSignal = 31
+
+abbrev pub maxName : ℕ
+maxName = 255
+
+-- the largest hi of an interval, and the most parts that one is split into
+abbrev pub maxInterval : ℕ
+maxInterval = 4095
+
+abbrev pub maxParts : ℕ
+maxParts = 12
+
+abbrev pub maxDelay : ℕ
+maxDelay = 4095
+
+-- ---- books
+abbrev pub recordBytes : ℕ
+recordBytes = 12
+
+abbrev pub maxRecords : ℕ
+maxRecords = 255
+
+abbrev pub bookBytes : ℕ
+bookBytes = maxRecords * recordBytes
+
+-- ---- traces
+abbrev pub maxState : ℕ
+maxState = 4294967295
+
+-- the most states of a whole trace, of a block, and of a session from its opening on
+abbrev pub maxTrace : ℕ
+maxTrace = 5120
+
+abbrev pub maxBlock : ℕ
+maxBlock = 1024
+
+abbrev pub maxSeen : ℕ
+maxSeen = 4294967295
+
+-- ---- lent buffers: the least length of each
+abbrev pub historyWords : ℕ
+historyWords = 4095
+
+abbrev pub registerWords : ℕ
+registerWords = 80
+
+-- a register for each node, and two more for U and R
+abbrev pub scratchWords : ℕ
+scratchWords = (maxNodes + 2) * registerWords
+
+abbrev pub feedWords : ℕ
+feedWords = 16
+
+abbrev pub closeWords : ℕ
+closeWords = 64
+
+-- ---- tables and sessions as bytes
+abbrev pub tableBytes : ℕ
+tableBytes = 546
+
+abbrev pub sessionBytes : ℕ
+sessionBytes = 558

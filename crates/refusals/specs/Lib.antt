@@ -1,0 +1,2 @@
+-- the number of each refusal by its name
+pub mod Numbers

@@ -1,0 +1,68 @@
+-- The numbers of document 01's refusals.
+use Prim.Native.Nat.{ℕ}
+
+-- ---- books, told with a record
+-- a length that is not 12 times 1 to 255
+abbrev pub LENGTH : ℕ
+LENGTH = 1
+
+-- a byte of the head is set beside its next
+abbrev pub HEAD : ℕ
+HEAD = 2
+
+-- a next beyond the book, or to a record that is passed
+abbrev pub LINK : ℕ
+LINK = 3
+
+-- a kind that is not 1 to 11, or a field that is set and not used
+abbrev pub FORM : ℕ
+FORM = 4
+
+-- a signal above 31, or a name of 0
+abbrev pub ARGUMENT : ℕ
+ARGUMENT = 5
+
+-- lo above hi, or hi above 4,095; also of a splitting
+abbrev pub INTERVAL : ℕ
+INTERVAL = 6
+
+-- an operand that is no earlier node
+abbrev pub OPERAND : ℕ
+OPERAND = 7
+
+-- the 65th node, or the 9th rule
+abbrev pub FULL : ℕ
+FULL = 8
+
+-- a delay above 4,095
+abbrev pub LONG : ℕ
+LONG = 9
+
+-- a name that is used already
+abbrev pub NAME : ℕ
+NAME = 10
+
+-- a chain that ended without a rule
+abbrev pub RULELESS : ℕ
+RULELESS = 11
+
+-- ---- tables and sessions
+-- a table that is not sound, or a session whose rule number is not below its rule count
+abbrev pub UNSOUND : ℕ
+UNSOUND = 25
+
+-- a rule number that is not below the rule count
+abbrev pub ABSENT : ℕ
+ABSENT = 21
+
+-- too many states
+abbrev pub STATES : ℕ
+STATES = 22
+
+-- a buffer that is too short
+abbrev pub BUFFER : ℕ
+BUFFER = 23
+
+-- more states in one session than can be counted
+abbrev pub SEEN : ℕ
+SEEN = 24
