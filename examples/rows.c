@@ -41,7 +41,7 @@ static void verdicts(const char *name, uint8_t kind, uint8_t lo, uint8_t hi, uin
 
     watch(table, kind, lo, hi, left, right);
     printf("%s ", name);
-    if (juntreak_verdicts(table, 0, states, 8, scratch, JUNTREAK_SCRATCH_WORDS, out, 1) != JUNTREAK_OK)
+    if (juntreak_verdicts(table, 0, states, 8, scratch, JUNTREAK_SCRATCH_WORDS, out, JUNTREAK_WHOLE_WORDS(8)) != JUNTREAK_OK)
         printf("refused");
     else
         for (t = 0; t < 8; t++)
@@ -51,7 +51,7 @@ static void verdicts(const char *name, uint8_t kind, uint8_t lo, uint8_t hi, uin
 
 static void splits(uint16_t v)
 {
-    uint8_t parts[12];
+    uint8_t parts[JUNTREAK_MAX_PARTS];
     uint32_t i, count = JUNTREAK_SPLIT_COUNT(juntreak_split(0, v, parts));
 
     printf("v %u:", (unsigned)v);
@@ -86,12 +86,12 @@ int main(void)
     splits(6);
     splits(13);
     splits(4084);
-    splits(4095);
+    splits(JUNTREAK_MAX_INTERVAL);
     watch(table, 7, 1, 3, P, 0);
     if (juntreak_open(table, 0, session) != JUNTREAK_OK)
         return 1;
-    told("feed of 5", juntreak_feed(session, states, 5, history, JUNTREAK_HISTORY_WORDS, scratch, JUNTREAK_SCRATCH_WORDS, out, 16), 3);
-    told("feed of 3", juntreak_feed(session, states + 5, 3, history, JUNTREAK_HISTORY_WORDS, scratch, JUNTREAK_SCRATCH_WORDS, out, 16), 3);
-    told("close", juntreak_close(session, history, JUNTREAK_HISTORY_WORDS, scratch, JUNTREAK_SCRATCH_WORDS, out, 64), 3);
+    told("feed of 5", juntreak_feed(session, states, 5, history, JUNTREAK_HISTORY_WORDS, scratch, JUNTREAK_SCRATCH_WORDS, out, JUNTREAK_FEED_WORDS), 3);
+    told("feed of 3", juntreak_feed(session, states + 5, 3, history, JUNTREAK_HISTORY_WORDS, scratch, JUNTREAK_SCRATCH_WORDS, out, JUNTREAK_FEED_WORDS), 3);
+    told("close", juntreak_close(session, history, JUNTREAK_HISTORY_WORDS, scratch, JUNTREAK_SCRATCH_WORDS, out, JUNTREAK_CLOSE_WORDS), 3);
     return 0;
 }

@@ -33,18 +33,18 @@ extern "C" {
 #define JUNTREAK_REGISTER_WORDS 80  /* words of a node's register in the scratch */
 
 /* Limits. */
-#define JUNTREAK_MAX_RECORDS 255     /* records of a book, the head included */
-#define JUNTREAK_MAX_NODES 64        /* nodes of a table */
-#define JUNTREAK_MAX_RULES 8         /* rules of a table */
-#define JUNTREAK_MAX_SIGNAL 31       /* the largest signal */
-#define JUNTREAK_MAX_NAME 255        /* the largest name of a rule */
-#define JUNTREAK_MAX_INTERVAL 4095   /* hi of an interval */
-#define JUNTREAK_MAX_PARTS 12        /* parts of an interval */
-#define JUNTREAK_MAX_DELAY 4095      /* delay of a node */
+#define JUNTREAK_MAX_RECORDS 255      /* records of a book, the head included */
+#define JUNTREAK_MAX_NODES 64         /* nodes of a table */
+#define JUNTREAK_MAX_RULES 8          /* rules of a table */
+#define JUNTREAK_MAX_SIGNAL 31        /* the largest signal */
+#define JUNTREAK_MAX_NAME 255         /* the largest name of a rule */
+#define JUNTREAK_MAX_INTERVAL 4095    /* hi of an interval */
+#define JUNTREAK_MAX_PARTS 12         /* parts of an interval */
+#define JUNTREAK_MAX_DELAY 4095       /* delay of a node */
 #define JUNTREAK_MAX_STATE 4294967295 /* the largest state */
-#define JUNTREAK_MAX_TRACE 5120      /* states of a whole trace */
-#define JUNTREAK_MAX_BLOCK 1024      /* states of one feed */
-#define JUNTREAK_MAX_SEEN 4294967295 /* states of a session from its opening on */
+#define JUNTREAK_MAX_TRACE 5120       /* states of a whole trace */
+#define JUNTREAK_MAX_BLOCK 1024       /* states of one feed */
+#define JUNTREAK_MAX_SEEN 4294967295  /* states of a session from its opening on */
 
 /* Least length of out for a whole trace of n states. */
 #define JUNTREAK_WHOLE_WORDS(n) ((n) / 64 + ((n) % 64 != 0))
@@ -55,23 +55,23 @@ extern "C" {
 enum {
     JUNTREAK_OK = 0,
     /* Books, answered with a record. */
-    JUNTREAK_LENGTH = 1,   /* length not 12 * (1..255); record 0 */
-    JUNTREAK_HEAD = 2,     /* head has a byte set beside its next; record 0 */
-    JUNTREAK_LINK = 3,     /* next beyond the book or already passed; the record that links */
-    JUNTREAK_FORM = 4,     /* kind not 1..11, or an unused field or byte 9-11 set */
-    JUNTREAK_ARGUMENT = 5, /* signal above 31, or name 0 */
-    JUNTREAK_INTERVAL = 6, /* lo > hi or hi > 4095; splitting answers it with record 0 */
-    JUNTREAK_OPERAND = 7,  /* operand not an earlier node */
-    JUNTREAK_FULL = 8,     /* 65th node or 9th rule */
-    JUNTREAK_LONG = 9,     /* delay above 4095 */
-    JUNTREAK_NAME = 10,    /* name already used */
+    JUNTREAK_LENGTH = 1,    /* length not 12 * (1..255); record 0 */
+    JUNTREAK_HEAD = 2,      /* head has a byte set beside its next; record 0 */
+    JUNTREAK_LINK = 3,      /* next beyond the book or already passed; the record that links */
+    JUNTREAK_FORM = 4,      /* kind not 1..11, or an unused field or byte 9-11 set */
+    JUNTREAK_ARGUMENT = 5,  /* signal above 31, or name 0 */
+    JUNTREAK_INTERVAL = 6,  /* lo > hi or hi > 4095; splitting answers it with record 0 */
+    JUNTREAK_OPERAND = 7,   /* operand not an earlier node */
+    JUNTREAK_FULL = 8,      /* 65th node or 9th rule */
+    JUNTREAK_LONG = 9,      /* delay above 4095 */
+    JUNTREAK_NAME = 10,     /* name already used */
     JUNTREAK_RULELESS = 11, /* chain ended without a rule; record 0 */
     /* Tables and sessions. */
-    JUNTREAK_UNSOUND = 25, /* bytes that are no sound table's or no session's */
-    JUNTREAK_ABSENT = 21,  /* rule number not below the rule count */
-    JUNTREAK_STATES = 22,  /* above 1024 states (feed) or 5120 (whole trace) */
-    JUNTREAK_BUFFER = 23,  /* history, scratch or out too short */
-    JUNTREAK_SEEN = 24     /* seen + k above 4294967295 */
+    JUNTREAK_UNSOUND = 25,  /* bytes that are no sound table's or no session's */
+    JUNTREAK_ABSENT = 21,   /* rule number not below the rule count */
+    JUNTREAK_STATES = 22,   /* above 1024 states (feed) or 5120 (whole trace) */
+    JUNTREAK_BUFFER = 23,   /* history, scratch or out too short */
+    JUNTREAK_SEEN = 24      /* seen + k above 4294967295 */
 };
 
 /* What an answer holds. */

@@ -1,21 +1,23 @@
 //! Safe wrappers of the exported functions; include/juntreak.h declares the same.
+use crate::header::limits::{MAX_PARTS, SESSION_BYTES, TABLE_BYTES};
 
-pub const TABLE: usize = 546;
-pub type TableBytes = [u8; TABLE];
-pub const SESSION: usize = 558;
-pub type SessionBytes = [u8; SESSION];
+pub type TableBytes = [u8; TABLE_BYTES];
+pub type SessionBytes = [u8; SESSION_BYTES];
+pub type Parts = [u8; MAX_PARTS];
 
 mod raw {
+    use super::{Parts, SessionBytes, TableBytes};
+
     extern "C" {
         pub fn juntreak_check_book(book: *const u8, n: usize) -> u32;
-        pub fn juntreak_read(book: *const u8, n: usize, table: *mut [u8; 546]) -> u32;
-        pub fn juntreak_delay(table: *const [u8; 546], rule: u32) -> u32;
-        pub fn juntreak_split(lo: u16, hi: u16, parts: *mut [u8; 12]) -> u32;
-        pub fn juntreak_verdicts(table: *const [u8; 546], rule: u32, states: *const u32, n: usize, scratch: *mut u64, x: usize, out: *mut u64, o: usize) -> u32;
-        pub fn juntreak_simplify(table: *mut [u8; 546]) -> u32;
-        pub fn juntreak_open(table: *const [u8; 546], rule: u32, session: *mut [u8; 558]) -> u32;
-        pub fn juntreak_feed(session: *mut [u8; 558], block: *const u32, k: usize, history: *mut u32, h: usize, scratch: *mut u64, x: usize, out: *mut u64, o: usize) -> u64;
-        pub fn juntreak_close(session: *mut [u8; 558], history: *const u32, h: usize, scratch: *mut u64, x: usize, out: *mut u64, o: usize) -> u64;
+        pub fn juntreak_read(book: *const u8, n: usize, table: *mut TableBytes) -> u32;
+        pub fn juntreak_delay(table: *const TableBytes, rule: u32) -> u32;
+        pub fn juntreak_split(lo: u16, hi: u16, parts: *mut Parts) -> u32;
+        pub fn juntreak_verdicts(table: *const TableBytes, rule: u32, states: *const u32, n: usize, scratch: *mut u64, x: usize, out: *mut u64, o: usize) -> u32;
+        pub fn juntreak_simplify(table: *mut TableBytes) -> u32;
+        pub fn juntreak_open(table: *const TableBytes, rule: u32, session: *mut SessionBytes) -> u32;
+        pub fn juntreak_feed(session: *mut SessionBytes, block: *const u32, k: usize, history: *mut u32, h: usize, scratch: *mut u64, x: usize, out: *mut u64, o: usize) -> u64;
+        pub fn juntreak_close(session: *mut SessionBytes, history: *const u32, h: usize, scratch: *mut u64, x: usize, out: *mut u64, o: usize) -> u64;
     }
 }
 
@@ -24,10 +26,10 @@ pub fn check_book(book: &[u8]) -> u32 {
 }
 
 /// The number and the record.
-pub fn read(book: &[u8], table: &mut TableBytes) -> (u8, u8) {
+pub fn read(book: &[u8], table: &mut TableBytes) -> (u32, u8) {
     let r = unsafe { raw::juntreak_read(book.as_ptr(), book.len(), table) };
     assert!(r < 65536);
-    ((r % 256) as u8, (r / 256) as u8)
+    (r % 256, (r / 256) as u8)
 }
 
 /// The number and the delay.
@@ -37,7 +39,7 @@ pub fn delay(table: &TableBytes, rule: u32) -> (u32, u32) {
 }
 
 /// The number and the count.
-pub fn split(lo: u16, hi: u16, parts: &mut [u8; 12]) -> (u32, usize) {
+pub fn split(lo: u16, hi: u16, parts: &mut Parts) -> (u32, usize) {
     let r = unsafe { raw::juntreak_split(lo, hi, parts) };
     (r % 256, (r / 256) as usize)
 }

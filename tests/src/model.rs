@@ -1,4 +1,12 @@
 //! What the documents say, written plainly and without regard to speed: the reader of books, soundness, delays, splitting, verdicts, the laws of simplifying, and sessions.
+use crate::header::limits::{
+    CLOSE_WORDS, FEED_WORDS, HISTORY_WORDS, MAX_BLOCK, MAX_DELAY, MAX_INTERVAL, MAX_NAME, MAX_NODES, MAX_RECORDS, MAX_RULES, MAX_SEEN, MAX_SIGNAL, MAX_TRACE,
+    NODE_COUNT_AT, RECORD_BYTES, RULE_COUNT_AT, SCRATCH_WORDS, SESSION_BYTES, TABLE_BYTES,
+};
+use crate::header::places::{node_at, rule_at, RULE_NUMBER_AT, SEEN_AT};
+use crate::header::refusals::{
+    ABSENT, ARGUMENT, BUFFER, FORM, FULL, HEAD, INTERVAL, LENGTH, LINK, LONG, NAME, OK, OPERAND, RULELESS, SEEN, STATES, UNSOUND,
+};
 
 #[derive(Clone, Copy, Debug, PartialEq, Eq)]
 pub struct Node {
@@ -23,13 +31,13 @@ pub struct Table {
 }
 
 impl Table {
-    /// The 546 bytes of the C interface.
-    pub fn bytes(&self) -> [u8; 546] {
-        let mut b = [0u8; 546];
-        b[0] = self.nodes.len() as u8;
-        b[1] = self.rules.len() as u8;
+    /// The bytes of the C interface.
+    pub fn bytes(&self) -> [u8; TABLE_BYTES] {
+        let mut b = [0u8; TABLE_BYTES];
+        b[NODE_COUNT_AT] = self.nodes.len() as u8;
+        b[RULE_COUNT_AT] = self.rules.len() as u8;
         for (i, n) in self.nodes.iter().enumerate() {
-            let e = &mut b[2 + 8 * i..];
+            let e = &mut b[node_at(i)..];
             e[0] = n.kind;
             e[1] = n.arg;
             e[2..4].copy_from_slice(&n.lo.to_le_bytes());
@@ -38,7 +46,7 @@ impl Table {
             e[7] = n.right;
         }
         for (i, r) in self.rules.iter().enumerate() {
-            let e = &mut b[514 + 4 * i..];
+            let e = &mut b[rule_at(i)..];
             e[0..2].copy_from_slice(&r.name.to_le_bytes());
             e[2] = r.watched;
         }
@@ -158,15 +166,15 @@ fn verdict(n: &Node, t: usize, states: &[u32], columns: &[Vec<bool>]) -> bool {
     }
 }
 
-/// What the interface's 546 bytes say, if they are a sound table's.
-pub fn sound(b: &[u8; 546]) -> Option<Table> {
-    let (nodes, rules) = (b[0] as usize, b[1] as usize);
-    if nodes > 64 || rules == 0 || rules > 8 {
+/// What the interface's bytes say, if they are a sound table's.
+pub fn sound(b: &[u8; TABLE_BYTES]) -> Option<Table> {
+    let (nodes, rules) = (b[NODE_COUNT_AT] as usize, b[RULE_COUNT_AT] as usize);
+    if nodes > MAX_NODES || rules == 0 || rules > MAX_RULES {
         return None;
     }
     let mut t = Table { nodes: vec![], rules: vec![] };
-    for i in 0..64 {
-        let e = &b[2 + 8 * i..10 + 8 * i];
+    for i in 0..MAX_NODES {
+        let e = &b[node_at(i)..node_at(i + 1)];
         if i >= nodes {
             if e.iter().any(|x| *x != 0) {
                 return None;
@@ -183,10 +191,10 @@ pub fn sound(b: &[u8; 546]) -> Option<Table> {
         };
         let earlier = |p: u8| (p as usize) < i;
         let fine = match n.kind {
-            1 => n.arg < 32,
+            1 => n.arg as usize <= MAX_SIGNAL,
             2..=10 => n.arg == 0,
             _ => false,
-        } && (if n.kind >= 7 { n.lo <= n.hi && n.hi <= 4095 } else { n.lo == 0 && n.hi == 0 })
+        } && (if n.kind >= 7 { n.lo <= n.hi && n.hi as usize <= MAX_INTERVAL } else { n.lo == 0 && n.hi == 0 })
             && (if n.kind >= 4 { earlier(n.left) } else { n.left == 0 })
             && (if matches!(n.kind, 5 | 6 | 9 | 10) { earlier(n.right) } else { n.right == 0 });
         if !fine {
@@ -194,11 +202,11 @@ pub fn sound(b: &[u8; 546]) -> Option<Table> {
         }
         t.nodes.push(n);
     }
-    if t.delays().iter().any(|d| *d > 4095) {
+    if t.delays().iter().any(|d| *d as usize > MAX_DELAY) {
         return None;
     }
-    for i in 0..8 {
-        let e = &b[514 + 4 * i..518 + 4 * i];
+    for i in 0..MAX_RULES {
+        let e = &b[rule_at(i)..rule_at(i + 1)];
         if i >= rules {
             if e.iter().any(|x| *x != 0) {
                 return None;
@@ -206,7 +214,7 @@ pub fn sound(b: &[u8; 546]) -> Option<Table> {
             continue;
         }
         let r = Rule { name: u16::from_le_bytes([e[0], e[1]]), watched: e[2] };
-        if e[3] != 0 || r.name == 0 || r.name > 255 || r.watched as usize >= nodes || t.rules.iter().any(|q| q.name == r.name) {
+        if e[3] != 0 || r.name == 0 || r.name as usize > MAX_NAME || r.watched as usize >= nodes || t.rules.iter().any(|q| q.name == r.name) {
             return None;
         }
         t.rules.push(r);
@@ -215,20 +223,20 @@ pub fn sound(b: &[u8; 546]) -> Option<Table> {
 }
 
 /// The reading of a book: its table, or the number and the record of the refusal.
-pub fn read(book: &[u8]) -> Result<Table, (u8, u8)> {
-    if book.is_empty() || book.len() % 12 != 0 || book.len() / 12 > 255 {
-        return Err((1, 0));
+pub fn read(book: &[u8]) -> Result<Table, (u32, u8)> {
+    if book.is_empty() || book.len() % RECORD_BYTES != 0 || book.len() / RECORD_BYTES > MAX_RECORDS {
+        return Err((LENGTH, 0));
     }
-    let records: Vec<&[u8]> = book.chunks(12).collect();
+    let records: Vec<&[u8]> = book.chunks(RECORD_BYTES).collect();
     let head = records[0];
-    if (0..12).any(|i| i != 8 && head[i] != 0) {
-        return Err((2, 0));
+    if (0..RECORD_BYTES).any(|i| i != 8 && head[i] != 0) {
+        return Err((HEAD, 0));
     }
     let mut passed = vec![0usize];
-    let follow = |at: usize, passed: &[usize]| -> Result<usize, (u8, u8)> {
+    let follow = |at: usize, passed: &[usize]| -> Result<usize, (u32, u8)> {
         let next = records[at][8] as usize;
         if next != 0 && (next >= records.len() || passed.contains(&next)) {
-            return Err((3, at as u8));
+            return Err((LINK, at as u8));
         }
         Ok(next)
     };
@@ -239,7 +247,7 @@ pub fn read(book: &[u8]) -> Result<Table, (u8, u8)> {
         passed.push(at);
         let next = follow(at, &passed)?;
         let e = records[at];
-        let refuse = |n: u8| Err((n, at as u8));
+        let refuse = |n: u32| Err((n, at as u8));
         let kind = e[0];
         let (arg, left, right) = (e[1], e[6], e[7]);
         let (lo, hi) = (u16::from_le_bytes([e[2], e[3]]), u16::from_le_bytes([e[4], e[5]]));
@@ -252,43 +260,43 @@ pub fn read(book: &[u8]) -> Result<Table, (u8, u8)> {
             7 | 8 => (false, true, false, true),
             9 | 10 => (false, true, true, true),
             11 => (true, true, false, false),
-            _ => return refuse(4),
+            _ => return refuse(FORM),
         };
-        if (!has_arg && arg != 0) || (!has_left && left != 0) || (!has_right && right != 0) || (!has_interval && (lo != 0 || hi != 0)) || e[9..12] != [0, 0, 0] {
-            return refuse(4);
+        if (!has_arg && arg != 0) || (!has_left && left != 0) || (!has_right && right != 0) || (!has_interval && (lo != 0 || hi != 0)) || e[9..] != [0, 0, 0] {
+            return refuse(FORM);
         }
-        if (kind == 1 && arg > 31) || (kind == 11 && arg == 0) {
-            return refuse(5);
+        if (kind == 1 && arg as usize > MAX_SIGNAL) || (kind == 11 && arg == 0) {
+            return refuse(ARGUMENT);
         }
-        if has_interval && (lo > hi || hi > 4095) {
-            return refuse(6);
+        if has_interval && (lo > hi || hi as usize > MAX_INTERVAL) {
+            return refuse(INTERVAL);
         }
         if (has_left && !place.contains_key(&left)) || (has_right && !place.contains_key(&right)) {
-            return refuse(7);
+            return refuse(OPERAND);
         }
         let node_at = |r: u8| *place.get(&r).unwrap_or(&0u8);
         if kind == 11 {
-            if t.rules.len() == 8 {
-                return refuse(8);
+            if t.rules.len() == MAX_RULES {
+                return refuse(FULL);
             }
             if t.rules.iter().any(|q| q.name == arg as u16) {
-                return refuse(10);
+                return refuse(NAME);
             }
             t.rules.push(Rule { name: arg as u16, watched: node_at(left) });
         } else {
-            if t.nodes.len() == 64 {
-                return refuse(8);
+            if t.nodes.len() == MAX_NODES {
+                return refuse(FULL);
             }
             t.nodes.push(Node { kind, arg, lo, hi, left: node_at(left), right: node_at(right) });
-            if *t.delays().last().unwrap() > 4095 {
-                return refuse(9);
+            if *t.delays().last().unwrap() as usize > MAX_DELAY {
+                return refuse(LONG);
             }
             place.insert(at as u8, t.nodes.len() as u8 - 1);
         }
         at = next;
     }
     if t.rules.is_empty() {
-        return Err((11, 0));
+        return Err((RULELESS, 0));
     }
     Ok(t)
 }
@@ -382,25 +390,22 @@ fn write_verdicts(out: &mut [u64], verdicts: &[bool]) {
     }
 }
 
-const SCRATCH: usize = 5280;
-const HISTORY: usize = 4095;
-
 /// The number of the whole-trace verdicts, and the buffers after it.
-pub fn whole(table: &[u8; 546], rule: u32, states: &[u32], scratch: &mut [u64], out: &mut [u64]) -> u32 {
-    let Some(t) = sound(table) else { return 25 };
+pub fn whole(table: &[u8; TABLE_BYTES], rule: u32, states: &[u32], scratch: &mut [u64], out: &mut [u64]) -> u32 {
+    let Some(t) = sound(table) else { return UNSOUND };
     if rule as usize >= t.rules.len() {
-        return 21;
+        return ABSENT;
     }
-    if states.len() > 5120 {
-        return 22;
+    if states.len() > MAX_TRACE {
+        return STATES;
     }
     let words = states.len().div_ceil(64);
-    if scratch.len() < SCRATCH || out.len() < words {
-        return 23;
+    if scratch.len() < SCRATCH_WORDS || out.len() < words {
+        return BUFFER;
     }
     write_verdicts(&mut out[..words], &t.rule_verdicts(rule as usize, states));
-    scratch[..SCRATCH].fill(0);
-    0
+    scratch[..SCRATCH_WORDS].fill(0);
+    OK
 }
 
 #[derive(Clone, Debug, PartialEq, Eq)]
@@ -411,12 +416,12 @@ pub struct Session {
 }
 
 impl Session {
-    /// The 558 bytes of the C interface.
-    pub fn bytes(&self) -> [u8; 558] {
-        let mut b = [0u8; 558];
-        b[..546].copy_from_slice(&self.table.bytes());
-        b[546..550].copy_from_slice(&self.rule.to_le_bytes());
-        b[550..].copy_from_slice(&self.seen.to_le_bytes());
+    /// The bytes of the C interface.
+    pub fn bytes(&self) -> [u8; SESSION_BYTES] {
+        let mut b = [0u8; SESSION_BYTES];
+        b[..TABLE_BYTES].copy_from_slice(&self.table.bytes());
+        b[RULE_NUMBER_AT..SEEN_AT].copy_from_slice(&self.rule.to_le_bytes());
+        b[SEEN_AT..].copy_from_slice(&self.seen.to_le_bytes());
         b
     }
 
@@ -430,64 +435,64 @@ impl Session {
     }
 }
 
-/// What the interface's 558 bytes say, if they are a session's.
-pub fn session(b: &[u8; 558]) -> Option<Session> {
-    let table = sound(b[..546].try_into().unwrap())?;
-    let rule = u32::from_le_bytes(b[546..550].try_into().unwrap());
-    let seen = u64::from_le_bytes(b[550..].try_into().unwrap());
-    if rule as usize >= table.rules.len() || seen > 4_294_967_295 {
+/// What the interface's bytes say, if they are a session's.
+pub fn session(b: &[u8; SESSION_BYTES]) -> Option<Session> {
+    let table = sound(b[..TABLE_BYTES].try_into().unwrap())?;
+    let rule = u32::from_le_bytes(b[RULE_NUMBER_AT..SEEN_AT].try_into().unwrap());
+    let seen = u64::from_le_bytes(b[SEEN_AT..].try_into().unwrap());
+    if rule as usize >= table.rules.len() || seen > MAX_SEEN as u64 {
         return None;
     }
     Some(Session { table, rule, seen })
 }
 
 /// The number of an opening, and the session after it.
-pub fn open(table: &[u8; 546], rule: u32, session: &mut [u8; 558]) -> u32 {
+pub fn open(table: &[u8; TABLE_BYTES], rule: u32, session: &mut [u8; SESSION_BYTES]) -> u32 {
     match sound(table) {
-        None => 25,
-        Some(t) if rule as usize >= t.rules.len() => 21,
+        None => UNSOUND,
+        Some(t) if rule as usize >= t.rules.len() => ABSENT,
         Some(table) => {
             *session = Session { table, rule, seen: 0 }.bytes();
-            0
+            OK
         }
     }
 }
 
 /// The number and the count of a feed, and the session and buffers after it.
-pub fn feed(session_bytes: &mut [u8; 558], block: &[u32], history: &mut [u32], scratch: &mut [u64], out: &mut [u64]) -> (u32, u32) {
-    let Some(mut s) = session(session_bytes) else { return (25, 0) };
+pub fn feed(session_bytes: &mut [u8; SESSION_BYTES], block: &[u32], history: &mut [u32], scratch: &mut [u64], out: &mut [u64]) -> (u32, u32) {
+    let Some(mut s) = session(session_bytes) else { return (UNSOUND, 0) };
     let k = block.len() as u64;
-    if k > 1024 {
-        return (22, 0);
+    if k > MAX_BLOCK as u64 {
+        return (STATES, 0);
     }
-    if history.len() < HISTORY || scratch.len() < SCRATCH || out.len() < 16 {
-        return (23, 0);
+    if history.len() < HISTORY_WORDS || scratch.len() < SCRATCH_WORDS || out.len() < FEED_WORDS {
+        return (BUFFER, 0);
     }
-    if s.seen + k > 4_294_967_295 {
-        return (24, 0);
+    if s.seen + k > MAX_SEEN as u64 {
+        return (SEEN, 0);
     }
     let d = s.delay();
     let trace: Vec<u32> = [&history[..s.held()], block].concat();
     let count = ((s.seen + k).saturating_sub(d) - s.seen.saturating_sub(d)) as usize;
-    write_verdicts(&mut out[..16], &s.table.rule_verdicts(s.rule as usize, &trace)[..count]);
+    write_verdicts(&mut out[..FEED_WORDS], &s.table.rule_verdicts(s.rule as usize, &trace)[..count]);
     s.seen += k;
     let kept = s.held();
     history[..kept].copy_from_slice(&trace[trace.len() - kept..]);
-    scratch[..SCRATCH].fill(0);
+    scratch[..SCRATCH_WORDS].fill(0);
     *session_bytes = s.bytes();
-    (0, count as u32)
+    (OK, count as u32)
 }
 
 /// The number and the count of a close, and the session and buffers after it.
-pub fn close(session_bytes: &mut [u8; 558], history: &[u32], scratch: &mut [u64], out: &mut [u64]) -> (u32, u32) {
-    let Some(mut s) = session(session_bytes) else { return (25, 0) };
-    if history.len() < HISTORY || scratch.len() < SCRATCH || out.len() < 64 {
-        return (23, 0);
+pub fn close(session_bytes: &mut [u8; SESSION_BYTES], history: &[u32], scratch: &mut [u64], out: &mut [u64]) -> (u32, u32) {
+    let Some(mut s) = session(session_bytes) else { return (UNSOUND, 0) };
+    if history.len() < HISTORY_WORDS || scratch.len() < SCRATCH_WORDS || out.len() < CLOSE_WORDS {
+        return (BUFFER, 0);
     }
     let held = s.held();
-    write_verdicts(&mut out[..64], &s.table.rule_verdicts(s.rule as usize, &history[..held]));
-    scratch[..SCRATCH].fill(0);
+    write_verdicts(&mut out[..CLOSE_WORDS], &s.table.rule_verdicts(s.rule as usize, &history[..held]));
+    scratch[..SCRATCH_WORDS].fill(0);
     s.seen = 0;
     *session_bytes = s.bytes();
-    (0, held as u32)
+    (OK, held as u32)
 }

@@ -1,24 +1,26 @@
 //! The program watch as plain Rust: its session over the evaluator of `twin`, its reader of lines and its writer of verdicts.
-use crate::library;
+use crate::header::limits::{BOOK_BYTES, MAX_BLOCK, MAX_TRACE, SCRATCH_WORDS};
+use crate::header::refusals::OK;
+use crate::header::whole_words;
+use crate::library::{self, TableBytes};
 use crate::model;
 use crate::twin;
 use std::io::{Error, ErrorKind, Read, Write};
 
-pub const BLOCK: usize = 1024;
-const LONGEST_BOOK: u64 = 255 * 12;
+const OUT_WORDS: usize = whole_words(MAX_TRACE);
 
 /// The states that still wait for their verdicts, and the buffers of the evaluator.
 struct Session {
-    table: [u8; 546],
+    table: TableBytes,
     delay: usize,
     waiting: Vec<u32>,
     scratch: Vec<u64>,
-    out: [u64; 80],
+    out: [u64; OUT_WORDS],
 }
 
 impl Session {
-    fn new(table: [u8; 546], delay: usize) -> Session {
-        Session { table, delay, waiting: Vec::with_capacity(5120), scratch: vec![0; 5280], out: [0; 80] }
+    fn new(table: TableBytes, delay: usize) -> Session {
+        Session { table, delay, waiting: Vec::with_capacity(MAX_TRACE), scratch: vec![0; SCRATCH_WORDS], out: [0; OUT_WORDS] }
     }
 
     /// Takes a block and gives the verdicts that no later state can change.
@@ -35,7 +37,7 @@ impl Session {
     fn give(&mut self, count: usize) -> Verdicts<'_> {
         if count > 0 {
             let number = twin::verdicts(&self.table, 0, &self.waiting, &mut self.scratch, &mut self.out);
-            assert_eq!(number, 0);
+            assert_eq!(number, OK);
             self.waiting.drain(..count);
         }
         Verdicts { words: &self.out, count }
@@ -113,7 +115,7 @@ impl From<Error> for Stop {
 
 impl Reader {
     fn new() -> Reader {
-        Reader { value: 0, digits: 0, line: 1, block: Vec::with_capacity(BLOCK) }
+        Reader { value: 0, digits: 0, line: 1, block: Vec::with_capacity(MAX_BLOCK) }
     }
 
     /// Takes a chunk of the input and hands on each block that becomes full.
@@ -131,7 +133,7 @@ impl Reader {
             }
             self.state(value, digits)?;
             (value, digits) = (0, 0);
-            if self.block.len() == BLOCK {
+            if self.block.len() == MAX_BLOCK {
                 full(&self.block)?;
                 self.block.clear();
             }
@@ -163,7 +165,7 @@ impl Reader {
 pub fn rules() -> std::io::Result<Vec<u8>> {
     let mut book = vec![];
     match std::fs::File::open("rules.bin") {
-        Ok(file) => file.take(LONGEST_BOOK + 1).read_to_end(&mut book)?,
+        Ok(file) => file.take(BOOK_BYTES as u64 + 1).read_to_end(&mut book)?,
         Err(e) if e.kind() == ErrorKind::NotFound => 0,
         Err(e) => return Err(e),
     };
@@ -194,7 +196,7 @@ pub fn watch(book: &[u8], input: impl Read, mut output: impl Write) -> std::io::
         Err((number, record)) => return writeln!(output, "book {number} {record}").and_then(|()| output.flush()),
     };
     let mut simple = table.bytes();
-    assert_eq!(library::simplify(&mut simple), 0);
+    assert_eq!(library::simplify(&mut simple), OK);
     let delay = library::delay(&simple, 0).1 as usize;
     let mut lines = Lines { to: output, name: table.rules[0].name as u64, tick: 0, text: vec![] };
     match stream(&mut Session::new(simple, delay), input, &mut lines) {

@@ -1,8 +1,7 @@
 //! What the program watch prints, from the sentences of document 01.
+use crate::header::limits::MAX_BLOCK;
 use crate::model;
 use std::fmt::Write;
-
-const BLOCK: usize = 1024;
 
 /// Every line ends in byte 10, which the last may lack.
 fn lines(input: &[u8]) -> Vec<&[u8]> {
@@ -31,7 +30,7 @@ pub fn expected(book: &[u8], input: &[u8], delay: usize) -> Vec<u8> {
     let states: Vec<Option<u32>> = lines(input).into_iter().map(state).collect();
     let bad = states.iter().position(Option::is_none);
     // A bad line's block isn't fed and nothing is closed, so that the last D states fed have no verdict.
-    let fed = bad.map_or(states.len(), |line| line / BLOCK * BLOCK);
+    let fed = bad.map_or(states.len(), |line| line / MAX_BLOCK * MAX_BLOCK);
     let given = if bad.is_some() { fed.saturating_sub(delay) } else { fed };
     let trace: Vec<u32> = states[..fed].iter().flatten().copied().collect();
     let mut out = String::new();

@@ -1,4 +1,6 @@
 //! Random numbers, tables, books and traces.
+use crate::header::limits::{MAX_RECORDS, MAX_RULES, MAX_SIGNAL, RECORD_BYTES, TABLE_BYTES};
+use crate::header::places::rule_at;
 use crate::model::{law_at, unused, Node, Rule, Table};
 
 /// SplitMix64.
@@ -40,14 +42,14 @@ fn interval(r: &mut Random, room: u16) -> (u16, u16) {
 }
 
 /// A sound table with `count` nodes, whose delays stay at most `longest`.
-pub fn table(r: &mut Random, count: usize, longest: u16) -> Table {
+pub fn table(r: &mut Random, count: usize, longest: usize) -> Table {
     let mut t = Table { nodes: vec![], rules: vec![] };
     let mut delays: Vec<u16> = vec![];
     for i in 0..count {
         let kind = if i == 0 { r.pick(&[1, 1, 2, 3]) } else { r.pick(&[1, 1, 2, 3, 4, 4, 5, 5, 6, 6, 7, 7, 8, 8, 9, 9, 10, 10]) };
         let mut n = Node { kind, arg: 0, lo: 0, hi: 0, left: 0, right: 0 };
         if kind == 1 {
-            n.arg = if r.chance(3) { r.below(32) as u8 } else { r.below(3) as u8 };
+            n.arg = if r.chance(3) { r.below(MAX_SIGNAL as u64 + 1) as u8 } else { r.below(3) as u8 };
         }
         let (mut a, mut b) = (0, 0);
         if kind >= 4 {
@@ -61,14 +63,14 @@ pub fn table(r: &mut Random, count: usize, longest: u16) -> Table {
         }
         let inner = a.max(b);
         if kind >= 7 {
-            let (lo, hi) = interval(r, longest - inner);
+            let (lo, hi) = interval(r, longest as u16 - inner);
             n.lo = lo;
             n.hi = hi;
         }
         delays.push(n.hi + inner);
         t.nodes.push(n);
     }
-    let rules = 1 + r.below(8) as usize;
+    let rules = 1 + r.below(MAX_RULES as u64) as usize;
     let mut name = 0u16;
     for i in 0..rules {
         name += 1 + r.below(20) as u16;
@@ -101,14 +103,14 @@ pub fn trace(r: &mut Random, n: usize) -> Vec<u32> {
 /// The book of a table, with rules between the nodes, records in random order, and spare records of dirt.
 pub fn book(r: &mut Random, t: &Table) -> Vec<u8> {
     let needed = t.nodes.len() + t.rules.len();
-    let total = (1 + needed + r.below(1 + (254 - needed as u64).min(20)) as usize).min(255);
+    let total = (1 + needed + r.below(1 + (MAX_RECORDS - 1 - needed).min(20) as u64) as usize).min(MAX_RECORDS);
     let mut places: Vec<u8> = (1..total as u8 as usize).map(|x| x as u8).collect();
     for i in (1..places.len()).rev() {
         places.swap(i, r.below(i as u64 + 1) as usize);
     }
     places.truncate(needed);
-    let mut b: Vec<u8> = (0..total * 12).map(|_| r.next() as u8).collect();
-    for x in &mut b[..12] {
+    let mut b: Vec<u8> = (0..total * RECORD_BYTES).map(|_| r.next() as u8).collect();
+    for x in &mut b[..RECORD_BYTES] {
         *x = 0;
     }
     // The order of the chain: nodes in order, each rule at some place after what it watches, rules in order.
@@ -125,8 +127,8 @@ pub fn book(r: &mut Random, t: &Table) -> Vec<u8> {
     let mut before = 0usize;
     for (k, (is_node, i)) in order.iter().enumerate() {
         let at = places[k];
-        b[before * 12 + 8] = at;
-        let e = &mut b[at as usize * 12..at as usize * 12 + 12];
+        b[before * RECORD_BYTES + 8] = at;
+        let e = &mut b[at as usize * RECORD_BYTES..][..RECORD_BYTES];
         e.fill(0);
         if *is_node {
             let n = &t.nodes[*i];
@@ -156,9 +158,9 @@ pub fn damage_book(r: &mut Random, b: &mut Vec<u8>) {
     if b.is_empty() {
         return;
     }
-    let records = (b.len() / 12).max(1);
+    let records = (b.len() / RECORD_BYTES).max(1);
     let record = r.below(records as u64) as usize;
-    let at = |k: usize| (record * 12 + k).min(b.len() - 1);
+    let at = |k: usize| (record * RECORD_BYTES + k).min(b.len() - 1);
     match r.below(12) {
         0 => {
             let i = r.below(b.len() as u64) as usize;
@@ -223,7 +225,7 @@ pub fn damage(r: &mut Random, b: &mut [u8]) {
         let at = match r.below(4) {
             0 => r.below(b.len() as u64) as usize,
             1 => r.below(20) as usize,
-            2 => 514 + r.below(32) as usize,
+            2 => rule_at(0) + r.below((TABLE_BYTES - rule_at(0)) as u64) as usize,
             _ => b.len() - 1 - r.below(14) as usize,
         };
         b[at] = r.pick(&[0, 1, 2, 8, 16, 63, 64, 255, r.0 as u8]);
@@ -298,7 +300,7 @@ fn plain(r: &mut Random, t: &Table) -> Node {
     let kind = if i == 0 { r.pick(&[1, 1, 1, 2, 3]) } else { r.pick(&[1, 1, 2, 3, 4, 5, 6, 7, 7, 8, 8, 9, 10]) };
     let mut n = Node { kind, arg: 0, lo: 0, hi: 0, left: 0, right: 0 };
     if kind == 1 {
-        n.arg = if r.chance(5) { r.below(32) as u8 } else { r.below(3) as u8 };
+        n.arg = if r.chance(5) { r.below(MAX_SIGNAL as u64 + 1) as u8 } else { r.below(3) as u8 };
     }
     if kind >= 4 {
         n.left = (if r.chance(2) { i - 1 } else { r.below(i) }) as u8;
@@ -310,7 +312,7 @@ fn plain(r: &mut Random, t: &Table) -> Node {
 }
 
 /// A sound table rich in what the laws of simplifying remove.
-pub fn redundant(r: &mut Random, count: usize, longest: u16) -> Table {
+pub fn redundant(r: &mut Random, count: usize, longest: usize) -> Table {
     let mut t = Table { nodes: vec![], rules: vec![] };
     let mut delays: Vec<u32> = vec![];
     for i in 0..count {
@@ -331,12 +333,12 @@ pub fn redundant(r: &mut Random, count: usize, longest: u16) -> Table {
         });
         let inside = inner(&delays, &n);
         if n.kind >= 7 && drawn {
-            (n.lo, n.hi) = interval(r, longest - inside as u16);
+            (n.lo, n.hi) = interval(r, longest as u16 - inside as u16);
         }
         delays.push(n.hi as u32 + inside);
         t.nodes.push(n);
     }
-    let rules = 1 + r.below(8) as usize;
+    let rules = 1 + r.below(MAX_RULES as u64) as usize;
     let mut name = 0;
     for _ in 0..rules {
         name += 1 + r.below(20) as u16;
@@ -347,7 +349,7 @@ pub fn redundant(r: &mut Random, count: usize, longest: u16) -> Table {
 }
 
 /// A sound table that no law of simplifying fits.
-pub fn law_free(r: &mut Random, count: usize, longest: u16) -> Table {
+pub fn law_free(r: &mut Random, count: usize, longest: usize) -> Table {
     loop {
         let mut t = Table { nodes: vec![], rules: vec![] };
         let mut delays: Vec<u32> = vec![];
@@ -362,7 +364,7 @@ pub fn law_free(r: &mut Random, count: usize, longest: u16) -> Table {
             }
             let inside = inner(&delays, &n);
             if n.kind >= 7 {
-                (n.lo, n.hi) = interval(r, longest - inside as u16);
+                (n.lo, n.hi) = interval(r, longest as u16 - inside as u16);
             }
             t.nodes.push(n);
             if law_at(&t, i).is_some() {
@@ -372,10 +374,10 @@ pub fn law_free(r: &mut Random, count: usize, longest: u16) -> Table {
             }
         }
         let mut watched = unused(&t);
-        if watched.len() > 8 {
+        if watched.len() > MAX_RULES {
             continue;
         }
-        while watched.len() < 8 && r.chance(2) {
+        while watched.len() < MAX_RULES && r.chance(2) {
             watched.push(r.below(count as u64) as usize);
         }
         let mut name = 0;

@@ -1,24 +1,31 @@
 //! A plain Rust evaluator by the same word algorithm and with the same duties as the proved one, to compare speeds with: it parses
 //! and checks the table, computes the nodes that are needed on 64-bit words in registers of 80, and clears the scratch. Its sessions
 //! parse and check the session's bytes at each call, refuse by the same numbers, and keep the history.
+use crate::header::limits::{
+    CLOSE_WORDS, FEED_WORDS, HISTORY_WORDS, MAX_BLOCK, MAX_DELAY, MAX_INTERVAL, MAX_NAME, MAX_NODES, MAX_RULES, MAX_SEEN, MAX_SIGNAL, MAX_TRACE, NODE_COUNT_AT,
+    REGISTER_WORDS, RULE_COUNT_AT, SCRATCH_WORDS, SESSION_BYTES, TABLE_BYTES,
+};
+use crate::header::places::{node_at, rule_at, RULE_NUMBER_AT, SEEN_AT};
+use crate::header::refusals::{ABSENT, BUFFER, OK, SEEN, STATES, UNSOUND};
 use crate::model::{Node, Rule};
 
 pub struct Parsed {
-    nodes: [Node; 64],
+    nodes: [Node; MAX_NODES],
     count: usize,
-    rules: [Rule; 8],
+    rules: [Rule; MAX_RULES],
     rule_count: usize,
 }
 
 const NO_NODE: Node = Node { kind: 0, arg: 0, lo: 0, hi: 0, left: 0, right: 0 };
 const NO_RULE: Rule = Rule { name: 0, watched: 0 };
 
-fn parse(b: &[u8; 546]) -> Option<Parsed> {
-    let mut t = Parsed { nodes: [NO_NODE; 64], count: b[0] as usize, rules: [NO_RULE; 8], rule_count: b[1] as usize };
-    for (n, e) in t.nodes.iter_mut().zip(b[2..514].chunks_exact(8)) {
+fn parse(b: &[u8; TABLE_BYTES]) -> Option<Parsed> {
+    let (count, rule_count) = (b[NODE_COUNT_AT] as usize, b[RULE_COUNT_AT] as usize);
+    let mut t = Parsed { nodes: [NO_NODE; MAX_NODES], count, rules: [NO_RULE; MAX_RULES], rule_count };
+    for (n, e) in t.nodes.iter_mut().zip(b[node_at(0)..rule_at(0)].chunks_exact(8)) {
         *n = Node { kind: e[0], arg: e[1], lo: u16::from_le_bytes([e[2], e[3]]), hi: u16::from_le_bytes([e[4], e[5]]), left: e[6], right: e[7] };
     }
-    for (r, e) in t.rules.iter_mut().zip(b[514..].chunks_exact(4)) {
+    for (r, e) in t.rules.iter_mut().zip(b[rule_at(0)..].chunks_exact(4)) {
         if e[3] != 0 {
             return None;
         }
@@ -31,19 +38,19 @@ fn fits(n: &Node, place: usize) -> bool {
     let below = |used: bool, limit: usize| if used { limit } else { 1 };
     let k = n.kind;
     (1..=10).contains(&k)
-        && (n.arg as usize) < below(k == 1, 32)
+        && (n.arg as usize) < below(k == 1, MAX_SIGNAL + 1)
         && n.lo <= n.hi
-        && (n.hi as usize) < below(k >= 7, 4096)
+        && (n.hi as usize) < below(k >= 7, MAX_INTERVAL + 1)
         && (n.left as usize) < below(k >= 4, place)
         && (n.right as usize) < below(matches!(k, 5 | 6 | 9 | 10), place)
 }
 
 /// The delays of the nodes, if the table is sound.
-fn sound(t: &Parsed) -> Option<[u32; 64]> {
-    if t.count > 64 || t.rule_count == 0 || t.rule_count > 8 {
+fn sound(t: &Parsed) -> Option<[u32; MAX_NODES]> {
+    if t.count > MAX_NODES || t.rule_count == 0 || t.rule_count > MAX_RULES {
         return None;
     }
-    let mut delays = [0u32; 64];
+    let mut delays = [0u32; MAX_NODES];
     for (i, n) in t.nodes.iter().enumerate() {
         if i >= t.count {
             if *n != NO_NODE {
@@ -62,7 +69,7 @@ fn sound(t: &Parsed) -> Option<[u32; 64]> {
             7 | 8 => n.hi as u32 + a,
             _ => n.hi as u32 + a.max(b),
         };
-        if delays[i] > 4095 {
+        if delays[i] > MAX_DELAY as u32 {
             return None;
         }
     }
@@ -71,7 +78,7 @@ fn sound(t: &Parsed) -> Option<[u32; 64]> {
             if *r != NO_RULE {
                 return None;
             }
-        } else if r.name == 0 || r.name > 255 || r.watched as usize >= t.count || t.rules[..i].iter().any(|q| q.name == r.name) {
+        } else if r.name == 0 || r.name > MAX_NAME as u16 || r.watched as usize >= t.count || t.rules[..i].iter().any(|q| q.name == r.name) {
             return None;
         }
     }
@@ -170,8 +177,8 @@ fn column(s: &mut [u64], trace: Trace, signal: u8) {
 /// A trace in two parts, read where they lie.
 type Trace<'a> = (&'a [u32], &'a [u32]);
 
-fn needed(nodes: &[Node; 64], k: usize) -> [bool; 64] {
-    let mut needed = [false; 64];
+fn needed(nodes: &[Node; MAX_NODES], k: usize) -> [bool; MAX_NODES] {
+    let mut needed = [false; MAX_NODES];
     needed[k] = true;
     for i in (0..=k).rev() {
         if needed[i] && nodes[i].kind >= 4 {
@@ -189,32 +196,32 @@ fn judge(t: &Parsed, k: usize, trace: Trace, count: usize, scratch: &mut [u64], 
     let n = trace.0.len() + trace.1.len();
     let needed = needed(&t.nodes, k);
     for i in (0..=k).filter(|i| needed[*i]) {
-        node(&t.nodes[i], i, n, trace, &mut scratch[..5280]);
+        node(&t.nodes[i], i, n, trace, &mut scratch[..SCRATCH_WORDS]);
     }
     let m = count.div_ceil(64);
-    out[..m].copy_from_slice(&scratch[80 * k..80 * k + m]);
+    out[..m].copy_from_slice(&scratch[REGISTER_WORDS * k..REGISTER_WORDS * k + m]);
     if m > 0 {
         out[m - 1] &= below(count, m - 1);
     }
-    scratch[..5280].fill(0);
+    scratch[..SCRATCH_WORDS].fill(0);
 }
 
-pub fn verdicts(table: &[u8; 546], rule: u32, states: &[u32], scratch: &mut [u64], out: &mut [u64]) -> u32 {
-    let Some(t) = parse(table) else { return 25 };
+pub fn verdicts(table: &[u8; TABLE_BYTES], rule: u32, states: &[u32], scratch: &mut [u64], out: &mut [u64]) -> u32 {
+    let Some(t) = parse(table) else { return UNSOUND };
     if sound(&t).is_none() {
-        return 25;
+        return UNSOUND;
     }
     if rule as usize >= t.rule_count {
-        return 21;
+        return ABSENT;
     }
-    if states.len() > 5120 {
-        return 22;
+    if states.len() > MAX_TRACE {
+        return STATES;
     }
-    if scratch.len() < 5280 || out.len() < states.len().div_ceil(64) {
-        return 23;
+    if scratch.len() < SCRATCH_WORDS || out.len() < states.len().div_ceil(64) {
+        return BUFFER;
     }
     judge(&t, t.rules[rule as usize].watched as usize, (&[], states), states.len(), scratch, out);
-    0
+    OK
 }
 
 /// What the bytes of a session say, if they are a session's.
@@ -226,13 +233,13 @@ struct Session {
 }
 
 impl Session {
-    fn parse(b: &[u8; 558]) -> Option<Session> {
-        let rule = u32::from_le_bytes(b[546..550].try_into().unwrap()) as usize;
-        let seen = u64::from_le_bytes(b[550..].try_into().unwrap());
-        if seen > u32::MAX as u64 {
+    fn parse(b: &[u8; SESSION_BYTES]) -> Option<Session> {
+        let rule = u32::from_le_bytes(b[RULE_NUMBER_AT..SEEN_AT].try_into().unwrap()) as usize;
+        let seen = u64::from_le_bytes(b[SEEN_AT..].try_into().unwrap());
+        if seen > MAX_SEEN as u64 {
             return None;
         }
-        let table = parse(b[..546].try_into().unwrap())?;
+        let table = parse(b[..TABLE_BYTES].try_into().unwrap())?;
         let delays = sound(&table)?;
         if rule >= table.rule_count {
             return None;
@@ -242,23 +249,23 @@ impl Session {
     }
 }
 
-fn put_seen(session: &mut [u8; 558], seen: usize) {
-    session[550..554].copy_from_slice(&(seen as u32).to_le_bytes());
+fn put_seen(session: &mut [u8; SESSION_BYTES], seen: usize) {
+    session[SEEN_AT..SEEN_AT + 4].copy_from_slice(&(seen as u32).to_le_bytes());
 }
 
 /// The number.
-pub fn open(table: &[u8; 546], rule: u32, session: &mut [u8; 558]) -> u32 {
-    let Some(t) = parse(table) else { return 25 };
+pub fn open(table: &[u8; TABLE_BYTES], rule: u32, session: &mut [u8; SESSION_BYTES]) -> u32 {
+    let Some(t) = parse(table) else { return UNSOUND };
     if sound(&t).is_none() {
-        return 25;
+        return UNSOUND;
     }
     if rule as usize >= t.rule_count {
-        return 21;
+        return ABSENT;
     }
-    session[..546].copy_from_slice(table);
-    session[546..550].copy_from_slice(&rule.to_le_bytes());
-    session[550..].fill(0);
-    0
+    session[..TABLE_BYTES].copy_from_slice(table);
+    session[RULE_NUMBER_AT..SEEN_AT].copy_from_slice(&rule.to_le_bytes());
+    session[SEEN_AT..].fill(0);
+    OK
 }
 
 /// Of the first h states of history and then the block, the last `left` go to history's first places.
@@ -270,49 +277,49 @@ fn keep(history: &mut [u32], h: usize, block: &[u32], left: usize) {
 }
 
 /// The number and the count.
-pub fn feed(session: &mut [u8; 558], block: &[u32], history: &mut [u32], scratch: &mut [u64], out: &mut [u64]) -> (u32, u32) {
-    let Some(s) = Session::parse(session) else { return (25, 0) };
-    if block.len() > 1024 {
-        return (22, 0);
+pub fn feed(session: &mut [u8; SESSION_BYTES], block: &[u32], history: &mut [u32], scratch: &mut [u64], out: &mut [u64]) -> (u32, u32) {
+    let Some(s) = Session::parse(session) else { return (UNSOUND, 0) };
+    if block.len() > MAX_BLOCK {
+        return (STATES, 0);
     }
-    if history.len() < 4095 || scratch.len() < 5280 || out.len() < 16 {
-        return (23, 0);
+    if history.len() < HISTORY_WORDS || scratch.len() < SCRATCH_WORDS || out.len() < FEED_WORDS {
+        return (BUFFER, 0);
     }
     let after = s.seen + block.len();
-    if after > u32::MAX as usize {
-        return (24, 0);
+    if after > MAX_SEEN {
+        return (SEEN, 0);
     }
     let h = s.seen.min(s.delay);
     let count = after.saturating_sub(s.delay) - s.seen.saturating_sub(s.delay);
     judge(&s.table, s.watched, (&history[..h], block), count, scratch, out);
-    out[count.div_ceil(64)..16].fill(0);
+    out[count.div_ceil(64)..FEED_WORDS].fill(0);
     keep(history, h, block, after.min(s.delay));
     put_seen(session, after);
-    (0, count as u32)
+    (OK, count as u32)
 }
 
 /// The number and the count.
-pub fn close(session: &mut [u8; 558], history: &[u32], scratch: &mut [u64], out: &mut [u64]) -> (u32, u32) {
-    let Some(s) = Session::parse(session) else { return (25, 0) };
-    if history.len() < 4095 || scratch.len() < 5280 || out.len() < 64 {
-        return (23, 0);
+pub fn close(session: &mut [u8; SESSION_BYTES], history: &[u32], scratch: &mut [u64], out: &mut [u64]) -> (u32, u32) {
+    let Some(s) = Session::parse(session) else { return (UNSOUND, 0) };
+    if history.len() < HISTORY_WORDS || scratch.len() < SCRATCH_WORDS || out.len() < CLOSE_WORDS {
+        return (BUFFER, 0);
     }
     let count = s.seen.min(s.delay);
     judge(&s.table, s.watched, (&history[..count], &[]), count, scratch, out);
-    out[count.div_ceil(64)..64].fill(0);
+    out[count.div_ceil(64)..CLOSE_WORDS].fill(0);
     put_seen(session, 0);
-    (0, count as u32)
+    (OK, count as u32)
 }
 
 /// The column of node x at place i, for a trace of n states.
 fn node(x: &Node, i: usize, n: usize, trace: Trace, scratch: &mut [u64]) {
     let m = n.div_ceil(64);
-    let (operands, rest) = scratch.split_at_mut(80 * i);
-    let (own, work) = rest.split_at_mut(5120 - 80 * i);
+    let (operands, rest) = scratch.split_at_mut(REGISTER_WORDS * i);
+    let (own, work) = rest.split_at_mut(REGISTER_WORDS * MAX_NODES - REGISTER_WORDS * i);
     let own = &mut own[..m];
-    let (spare, third) = work.split_at_mut(80);
+    let (spare, third) = work.split_at_mut(REGISTER_WORDS);
     let (spare, third) = (&mut spare[..m], &mut third[..m]);
-    let register = |p: u8| &operands[80 * p as usize..80 * p as usize + m];
+    let register = |p: u8| &operands[REGISTER_WORDS * p as usize..REGISTER_WORDS * p as usize + m];
     match x.kind {
         1 => column(own, trace, x.arg),
         2 => own.iter_mut().enumerate().for_each(|(w, y)| *y = below(n, w)),

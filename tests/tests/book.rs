@@ -1,30 +1,35 @@
 //! Books, delays and splittings, against the models.
+use juntreak_tests::header::limits::{BOOK_BYTES, MAX_DELAY, MAX_INTERVAL, MAX_NODES, MAX_PARTS, MAX_RULES, RECORD_BYTES, TABLE_BYTES};
+use juntreak_tests::header::places::rule_at;
+use juntreak_tests::header::refusals::{ABSENT, INTERVAL, LENGTH, LINK, LONG, OK, RULELESS, UNSOUND};
 use juntreak_tests::library::{check_book, delay, read, split};
 use juntreak_tests::model;
 use juntreak_tests::random::{book, damage_book, table, Random};
 
 /// Every answer about one book; returns the number of the refusal.
-fn compare(b: &[u8], dirt: u8) -> u8 {
-    let mut bytes = [dirt; 546];
+fn compare(b: &[u8], dirt: u8) -> u32 {
+    let mut bytes = [dirt; TABLE_BYTES];
     let (number, record) = read(b, &mut bytes);
-    assert_eq!(check_book(b), number as u32 + 256 * record as u32);
+    assert_eq!(check_book(b), number + 256 * record as u32);
     match model::read(b) {
         Ok(t) => {
-            assert_eq!((number, record), (0, 0), "{b:?}");
+            assert_eq!((number, record), (OK, 0), "{b:?}");
             assert_eq!(bytes, t.bytes(), "{b:?}");
             assert_eq!(model::sound(&bytes), Some(t));
         }
         Err(refusal) => {
             assert_eq!((number, record), refusal, "{b:?}");
-            assert_eq!(bytes, [dirt; 546], "a refused call writes nothing");
+            assert_eq!(bytes, [dirt; TABLE_BYTES], "a refused call writes nothing");
         }
     }
     number
 }
 
+type Record = [u8; RECORD_BYTES];
+
 /// A book chained 1, 2, 3 up of the given records.
-fn chained(records: &[[u8; 12]]) -> Vec<u8> {
-    let mut b = vec![0u8; 12];
+fn chained(records: &[Record]) -> Vec<u8> {
+    let mut b = vec![0u8; RECORD_BYTES];
     b[8] = 1;
     for (i, e) in records.iter().enumerate() {
         let mut e = *e;
@@ -34,24 +39,24 @@ fn chained(records: &[[u8; 12]]) -> Vec<u8> {
     b
 }
 
-const SIGNAL: [u8; 12] = [1, 0, 0, 0, 0, 0, 0, 0, 0, 0, 0, 0];
+const SIGNAL: Record = [1, 0, 0, 0, 0, 0, 0, 0, 0, 0, 0, 0];
 
-fn rule(name: u8, watched: u8) -> [u8; 12] {
+fn rule(name: u8, watched: u8) -> Record {
     [11, name, 0, 0, 0, 0, watched, 0, 0, 0, 0, 0]
 }
 
-fn finally(hi: u16, left: u8) -> [u8; 12] {
-    let h = hi.to_le_bytes();
+fn finally(hi: usize, left: u8) -> Record {
+    let h = (hi as u16).to_le_bytes();
     [7, 0, 0, 0, h[0], h[1], left, 0, 0, 0, 0, 0]
 }
 
 #[test]
 fn random_valid_and_damaged_books() {
     let mut r = Random(1);
-    let mut seen = [0u32; 12];
+    let mut seen = [0u32; RULELESS as usize + 1];
     for round in 0..30_000u32 {
-        let count = if r.chance(20) { 64 } else { 1 + r.below(12) as usize };
-        let longest = r.pick(&[4095, 4095, 300]);
+        let count = if r.chance(20) { MAX_NODES } else { 1 + r.below(12) as usize };
+        let longest = r.pick(&[MAX_DELAY, MAX_DELAY, 300]);
         let t = table(&mut r, count, longest);
         let mut b = book(&mut r, &t);
         assert_eq!(model::read(&b), Ok(t.clone()));
@@ -61,15 +66,15 @@ fn random_valid_and_damaged_books() {
         seen[compare(&b, round as u8) as usize] += 1;
     }
     // Refusals that damage seldom reaches: too many nodes or rules, long delays, names used twice, no rule.
-    for round in 0..200u32 {
-        let mut many = vec![SIGNAL; 65 - (round % 2) as usize];
-        many.extend((0..7 + round % 4).map(|i| rule(1 + i as u8, 1)));
+    for round in 0..200usize {
+        let mut many = vec![SIGNAL; MAX_NODES + 1 - round % 2];
+        many.extend((0..MAX_RULES - 1 + round % 4).map(|i| rule(1 + i as u8, 1)));
         seen[compare(&chained(&many), 7) as usize] += 1;
-        let hi = 4090 + (round % 8) as u16;
+        let hi = MAX_DELAY - 5 + round % 8;
         seen[compare(&chained(&[SIGNAL, finally(3, 1), finally(hi, 2), rule(9, 3)]), 7) as usize] += 1;
         let again = 1 + (round % 3) as u8;
         seen[compare(&chained(&[SIGNAL, rule(1, 1), rule(2, 1), rule(again, 1)]), 7) as usize] += 1;
-        seen[compare(&chained(&vec![SIGNAL; 1 + (round % 9) as usize]), 7) as usize] += 1;
+        seen[compare(&chained(&vec![SIGNAL; 1 + round % 9]), 7) as usize] += 1;
     }
     for (number, times) in seen.iter().enumerate() {
         assert!(*times >= 50, "refusal {number} was seen {times} times");
@@ -79,13 +84,13 @@ fn random_valid_and_damaged_books() {
 #[test]
 fn every_length() {
     let mut r = Random(2);
-    for n in 0..=3100usize {
+    for n in 0..=BOOK_BYTES + 40 {
         let mut b = vec![0u8; n];
         compare(&b, 1);
         for x in &mut b {
             *x = if r.chance(3) { r.below(14) as u8 } else { 0 };
         }
-        for x in b.iter_mut().take(12) {
+        for x in b.iter_mut().take(RECORD_BYTES) {
             *x = 0;
         }
         if n > 8 {
@@ -99,16 +104,16 @@ fn every_length() {
 fn worked_examples() {
     let own = {
         let mut b = chained(&[SIGNAL, rule(1, 1)]);
-        b[12 + 8] = 1;
+        b[RECORD_BYTES + 8] = 1;
         b
     };
-    assert_eq!(check_book(&own), 3 + 256);
-    assert_eq!(check_book(&chained(&[SIGNAL, finally(4095, 1), rule(1, 2)])), 0);
-    assert_eq!(check_book(&chained(&[SIGNAL, finally(4095, 1), finally(1, 2), rule(1, 3)])), 9 + 256 * 3);
-    assert_eq!(check_book(&[]), 1);
-    assert_eq!(check_book(&[0; 12]), 11);
-    assert_eq!(check_book(&[0; 255 * 12]), 11);
-    assert_eq!(check_book(&[0; 256 * 12]), 1);
+    assert_eq!(check_book(&own), LINK + 256);
+    assert_eq!(check_book(&chained(&[SIGNAL, finally(MAX_DELAY, 1), rule(1, 2)])), OK);
+    assert_eq!(check_book(&chained(&[SIGNAL, finally(MAX_DELAY, 1), finally(1, 2), rule(1, 3)])), LONG + 256 * 3);
+    assert_eq!(check_book(&[]), LENGTH);
+    assert_eq!(check_book(&[0; RECORD_BYTES]), RULELESS);
+    assert_eq!(check_book(&[0; BOOK_BYTES]), RULELESS);
+    assert_eq!(check_book(&[0; BOOK_BYTES + RECORD_BYTES]), LENGTH);
 }
 
 #[test]
@@ -116,19 +121,21 @@ fn delays_of_sound_and_damaged_tables() {
     let mut r = Random(3);
     let (mut sound, mut unsound) = (0, 0);
     for _ in 0..20_000 {
-        let count = 1 + r.below(64) as usize;
-        let t = table(&mut r, count, 4095);
+        let count = 1 + r.below(MAX_NODES as u64) as usize;
+        let t = table(&mut r, count, MAX_DELAY);
         let mut b = t.bytes();
         for _ in 0..r.below(3) {
-            let at = if r.chance(2) { r.below(546) } else { r.pick(&[0, 1, 2, 4, 5, 6, 7, 8, 9, 514, 515, 516, 517, 518, 545]) };
-            b[at as usize] = r.pick(&[0, 1, 2, 16, 63, 64, 255, r.0 as u8]);
+            let rules = rule_at(0);
+            let places = [0, 1, 2, 4, 5, 6, 7, 8, 9, rules, rules + 1, rules + 2, rules + 3, rules + 4, TABLE_BYTES - 1];
+            let at = if r.chance(2) { r.below(TABLE_BYTES as u64) as usize } else { r.pick(&places) };
+            b[at] = r.pick(&[0, 1, 2, 16, 63, 64, 255, r.0 as u8]);
         }
         let want = model::sound(&b);
         for rule in [0, 1, 7, 8, u32::MAX] {
             let expected = match &want {
-                None => (25, 0),
-                Some(t) if rule as usize >= t.rules.len() => (21, 0),
-                Some(t) => (0, t.delays()[t.rules[rule as usize].watched as usize]),
+                None => (UNSOUND, 0),
+                Some(t) if rule as usize >= t.rules.len() => (ABSENT, 0),
+                Some(t) => (OK, t.delays()[t.rules[rule as usize].watched as usize]),
             };
             assert_eq!(delay(&b, rule), expected);
         }
@@ -139,22 +146,23 @@ fn delays_of_sound_and_damaged_tables() {
 
 #[test]
 fn all_splittings() {
-    for v in 0..=4095u16 {
+    const LONGEST: u16 = MAX_INTERVAL as u16;
+    for v in 0..=LONGEST {
         let want = model::parts(v as u32);
-        for lo in [0, 1, 4095 - v] {
-            if lo + v > 4095 {
+        for lo in [0, 1, LONGEST - v] {
+            if lo + v > LONGEST {
                 continue;
             }
-            let mut parts = [0xaa; 12];
+            let mut parts = [0xaa; MAX_PARTS];
             let (number, count) = split(lo, lo + v, &mut parts);
-            assert_eq!((number, count), (0, want.len()));
+            assert_eq!((number, count), (OK, want.len()));
             assert_eq!(&parts[..count], &want[..]);
             assert!(parts[count..].iter().all(|k| *k == 0));
         }
     }
-    for (lo, hi) in [(1, 0), (5, 4), (0, 4096), (4096, 4096), (65535, 65535), (65535, 0)] {
-        let mut parts = [0xaa; 12];
-        assert_eq!(split(lo, hi, &mut parts), (6, 0));
-        assert_eq!(parts, [0xaa; 12], "a refused call writes nothing");
+    for (lo, hi) in [(1, 0), (5, 4), (0, LONGEST + 1), (LONGEST + 1, LONGEST + 1), (65535, 65535), (65535, 0)] {
+        let mut parts = [0xaa; MAX_PARTS];
+        assert_eq!(split(lo, hi, &mut parts), (INTERVAL, 0));
+        assert_eq!(parts, [0xaa; MAX_PARTS], "a refused call writes nothing");
     }
 }

@@ -1,5 +1,9 @@
 //! What the benchmarks compare the library with: the queue-based monitor and the naive stream against the naive evaluator, the twin against the model.
 use juntreak_tests::formulas;
+use juntreak_tests::header::limits::{CLOSE_WORDS, FEED_WORDS, HISTORY_WORDS, MAX_BLOCK, MAX_DELAY, MAX_NODES, MAX_SEEN, SCRATCH_WORDS, SESSION_BYTES};
+use juntreak_tests::header::places::SEEN_AT;
+use juntreak_tests::header::refusals::{BUFFER, OK, SEEN, STATES, UNSOUND};
+use juntreak_tests::header::NUMBERS;
 use juntreak_tests::model::{self, Session, Table};
 use juntreak_tests::naive::Stream;
 use juntreak_tests::queue::Monitor;
@@ -42,7 +46,7 @@ fn naive_verdicts(t: &Table, rule: usize, states: &[u32], block: usize) -> Vec<b
 fn queue_compared(t: &Table, rule: usize, states: &[u32], right: &[bool]) -> usize {
     let settled = states.len().saturating_sub(t.rule_delay(rule) as usize);
     let mut given = vec![stepped_verdicts(t, rule, states)];
-    given.extend([1, 7, 64, 1024].map(|k| queue_verdicts(t, rule, states, k)));
+    given.extend([1, 7, 64, MAX_BLOCK].map(|k| queue_verdicts(t, rule, states, k)));
     for g in &given {
         assert!(g.len() >= settled && g[..] == right[..g.len()], "{t:?} rule {rule} {states:?}");
         assert_eq!(g.len(), given[0].len());
@@ -73,8 +77,8 @@ fn queue_on_short_traces() {
 fn queue_on_long_traces() {
     let mut r = Random(42);
     for _ in 0..120 {
-        let count = 1 + r.below(64) as usize;
-        let longest = r.pick(&[4095, 1100, 300]);
+        let count = 1 + r.below(MAX_NODES as u64) as usize;
+        let longest = r.pick(&[MAX_DELAY, 1100, 300]);
         let t = table(&mut r, count, longest);
         let states = trace(&mut r, 9_000);
         let rule = r.below(t.rules.len() as u64) as usize;
@@ -104,21 +108,21 @@ fn naive_streams() {
         let rule = r.below(t.rules.len() as u64) as usize;
         let settled = n.saturating_sub(t.rule_delay(rule) as usize);
         let right = t.verdicts(t.rules[rule].watched as usize, &states);
-        for block in [1, 13, 1024] {
+        for block in [1, 13, MAX_BLOCK] {
             assert!(naive_verdicts(&t, rule, &states, block) == right[..settled], "{t:?} rule {rule} {states:?}");
         }
     }
 }
 
 /// Now and then something is made unfit: the session's bytes, the block's length, the count of states seen, or a buffer.
-fn spoil(r: &mut Random, session: &mut [u8; 558], block: &mut Vec<u32>, history: &mut Vec<u32>, scratch: &mut Vec<u64>, out: &mut Vec<u64>) {
+fn spoil(r: &mut Random, session: &mut [u8; SESSION_BYTES], block: &mut Vec<u32>, history: &mut Vec<u32>, scratch: &mut Vec<u64>, out: &mut Vec<u64>) {
     match r.below(16) {
         0 => damage(r, session),
-        1 => block.resize(r.pick(&[1024, 1025]), 3),
-        2 => session[550..].copy_from_slice(&r.pick(&[5u64, 5000, u32::MAX as u64 - 3, u32::MAX as u64, 1 << 32]).to_le_bytes()),
-        3 => history.truncate(4094),
-        4 => scratch.truncate(5279),
-        5 => out.truncate(r.pick(&[15, 16, 63])),
+        1 => block.resize(r.pick(&[MAX_BLOCK, MAX_BLOCK + 1]), 3),
+        2 => session[SEEN_AT..].copy_from_slice(&r.pick(&[5, 5000, MAX_SEEN as u64 - 3, MAX_SEEN as u64, MAX_SEEN as u64 + 1]).to_le_bytes()),
+        3 => history.truncate(HISTORY_WORDS - 1),
+        4 => scratch.truncate(SCRATCH_WORDS - 1),
+        5 => out.truncate(r.pick(&[FEED_WORDS - 1, FEED_WORDS, CLOSE_WORDS - 1])),
         _ => {}
     }
 }
@@ -126,25 +130,25 @@ fn spoil(r: &mut Random, session: &mut [u8; 558], block: &mut Vec<u32>, history:
 #[test]
 fn twin_sessions() {
     let mut r = Random(45);
-    let mut numbers = [0u32; 26];
+    let mut numbers = [0u32; NUMBERS];
     for _ in 0..1_500 {
         let count = 1 + r.below(12) as usize;
-        let longest = r.pick(&[4095, 1100, 70, 9]);
+        let longest = r.pick(&[MAX_DELAY, 1100, 70, 9]);
         let t = table(&mut r, count, longest);
         let rule = r.below(t.rules.len() as u64 + 1) as u32;
         let mut bytes = t.bytes();
         if r.chance(8) {
             damage(&mut r, &mut bytes);
         }
-        let (mut opened, mut wanted) = ([0xaa; 558], [0xaa; 558]);
+        let (mut opened, mut wanted) = ([0xaa; SESSION_BYTES], [0xaa; SESSION_BYTES]);
         assert_eq!(twin::open(&bytes, rule, &mut opened), model::open(&bytes, rule, &mut wanted));
         assert_eq!(opened, wanted);
         let mut session = Session { table: t, rule, seen: 0 }.bytes();
-        let mut history = short_words(&mut r, 4096);
+        let mut history = short_words(&mut r, HISTORY_WORDS + 1);
         for _ in 0..6 {
-            let k = r.pick(&[0, 1, 63, 64, 200, 1024]);
+            let k = r.pick(&[0, 1, 63, 64, 200, MAX_BLOCK]);
             let mut block = trace(&mut r, k);
-            let (mut scratch, mut out) = (words(&mut r, 5281), words(&mut r, 65));
+            let (mut scratch, mut out) = (words(&mut r, SCRATCH_WORDS + 1), words(&mut r, CLOSE_WORDS + 1));
             let (own, own_history) = (session, history.clone());
             spoil(&mut r, &mut session, &mut block, &mut history, &mut scratch, &mut out);
             let (mut s, mut h, mut x, mut o) = (session, history.clone(), scratch.clone(), out.clone());
@@ -159,10 +163,10 @@ fn twin_sessions() {
             same("scratch", &scratch, &x);
             same("out", &out, &o);
             numbers[got.0 as usize] += 1;
-            if got.0 != 0 {
+            if got.0 != OK {
                 (session, history) = (own, own_history);
             }
         }
     }
-    assert!([0, 22, 23, 24, 25].iter().all(|n| numbers[*n] > 20), "{numbers:?}");
+    assert!([OK, STATES, BUFFER, SEEN, UNSOUND].iter().all(|n| numbers[*n as usize] > 20), "{numbers:?}");
 }

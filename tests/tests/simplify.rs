@@ -1,4 +1,6 @@
 //! The simplifier: nothing fits a law afterwards, and every verdict stays.
+use juntreak_tests::header::limits::{MAX_DELAY, MAX_NODES, TABLE_BYTES};
+use juntreak_tests::header::refusals::{OK, UNSOUND};
 use juntreak_tests::library::simplify;
 use juntreak_tests::model::{self, Node, Rule, Table};
 use juntreak_tests::random::{damage, law_free, redundant, table, trace, Random};
@@ -7,7 +9,7 @@ use juntreak_tests::random::{damage, law_free, redundant, table, trace, Random};
 fn compare(r: &mut Random, t: &Table) -> Table {
     let before = t.bytes();
     let mut after = before;
-    assert_eq!(simplify(&mut after), 0, "{t:?}");
+    assert_eq!(simplify(&mut after), OK, "{t:?}");
     let s = model::sound(&after).unwrap_or_else(|| panic!("not sound: {t:?}"));
     assert_eq!(model::law(&s), None, "{t:?} gives {s:?}");
     if model::law(t).is_none() {
@@ -20,7 +22,7 @@ fn compare(r: &mut Random, t: &Table) -> Table {
         assert!(s.rule_delay(i) <= t.rule_delay(i), "{t:?} gives {s:?}");
     }
     let mut again = after;
-    assert_eq!(simplify(&mut again), 0);
+    assert_eq!(simplify(&mut again), OK);
     assert!(again == after, "{t:?} gives {s:?}, then {:?}", model::sound(&again));
     let some = r.below(40) as usize;
     for n in [some, r.pick(&[0, 1, 2, 5, 12, 100])] {
@@ -40,15 +42,15 @@ fn random_redundant_tables() {
     let rounds = 24_000;
     let (mut before, mut after, mut full) = (0usize, 0usize, 0usize);
     for _ in 0..rounds {
-        let count = 1 + r.below(64) as usize;
-        let count = r.pick(&[count, count, count.min(10), count.min(10), 64]);
-        let longest = r.pick(&[4095, 300, 30, 9, 2]);
+        let count = 1 + r.below(MAX_NODES as u64) as usize;
+        let count = r.pick(&[count, count, count.min(10), count.min(10), MAX_NODES]);
+        let longest = r.pick(&[MAX_DELAY, 300, 30, 9, 2]);
         let t = if r.chance(6) { table(&mut r, count, longest) } else { redundant(&mut r, count, longest) };
         assert_eq!(model::sound(&t.bytes()), Some(t.clone()));
         let s = compare(&mut r, &t);
         before += t.nodes.len();
         after += s.nodes.len();
-        full += (count == 64) as usize;
+        full += (count == MAX_NODES) as usize;
     }
     assert!(full > 2_000);
     let mean = |x: usize| x as f64 / rounds as f64;
@@ -59,9 +61,9 @@ fn random_redundant_tables() {
 fn law_free_tables_stay() {
     let mut r = Random(22);
     for _ in 0..4_000 {
-        let count = 1 + r.below(64) as usize;
-        let count = r.pick(&[count, count.min(8), 64]);
-        let longest = r.pick(&[4095, 300, 30]);
+        let count = 1 + r.below(MAX_NODES as u64) as usize;
+        let count = r.pick(&[count, count.min(8), MAX_NODES]);
+        let longest = r.pick(&[MAX_DELAY, 300, 30]);
         let t = law_free(&mut r, count, longest);
         assert_eq!(model::sound(&t.bytes()), Some(t.clone()));
         assert_eq!(model::law(&t), None, "{t:?}");
@@ -74,8 +76,8 @@ fn unsound_tables_are_refused() {
     let mut r = Random(23);
     let (mut sound, mut unsound) = (0, 0);
     for _ in 0..20_000 {
-        let count = 1 + r.below(64) as usize;
-        let longest = r.pick(&[4095, 30]);
+        let count = 1 + r.below(MAX_NODES as u64) as usize;
+        let longest = r.pick(&[MAX_DELAY, 30]);
         let mut bytes = redundant(&mut r, count, longest).bytes();
         damage(&mut r, &mut bytes);
         match model::sound(&bytes) {
@@ -85,16 +87,16 @@ fn unsound_tables_are_refused() {
             }
             None => {
                 let mut after = bytes;
-                assert_eq!(simplify(&mut after), 25);
+                assert_eq!(simplify(&mut after), UNSOUND);
                 assert!(after == bytes);
                 unsound += 1;
             }
         }
     }
     assert!(sound > 100 && unsound > 1000, "{sound} {unsound}");
-    for bytes in [[0u8; 546], [255; 546]] {
+    for bytes in [[0u8; TABLE_BYTES], [255; TABLE_BYTES]] {
         let mut after = bytes;
-        assert_eq!(simplify(&mut after), 25);
+        assert_eq!(simplify(&mut after), UNSOUND);
         assert!(after == bytes);
     }
 }

@@ -1,4 +1,7 @@
 //! Verdicts of whole traces, against the naive evaluator.
+use juntreak_tests::header::limits::{MAX_DELAY, MAX_INTERVAL, MAX_NODES, MAX_TRACE, SCRATCH_WORDS};
+use juntreak_tests::header::refusals::{ABSENT, BUFFER, OK, STATES, UNSOUND};
+use juntreak_tests::header::{whole_words, NUMBERS};
 use juntreak_tests::library::{verdicts, TableBytes};
 use juntreak_tests::model::{self, Node, Rule, Table};
 use juntreak_tests::random::{damage, redundant, table, trace, words, Random};
@@ -13,22 +16,22 @@ fn compare(r: &mut Random, bytes: &TableBytes, rule: u32, states: &[u32], scratc
     assert_eq!(number, wanted);
     same("scratch", &scratch, &scratch_wanted);
     same("out", &out, &out_wanted);
-    if number == 0 {
-        assert!(scratch[..5280].iter().all(|w| *w == 0));
+    if number == OK {
+        assert!(scratch[..SCRATCH_WORDS].iter().all(|w| *w == 0));
     }
     (number, out)
 }
 
 /// An accepted call whose buffers are now and then longer than needed; returns the verdicts.
 fn accepted(r: &mut Random, t: &Table, rule: usize, states: &[u32]) -> Vec<bool> {
-    let scratch = 5280 + r.pick(&[0, 0, 1, 9]);
-    let out = states.len().div_ceil(64) + r.pick(&[0, 1, 5]);
+    let scratch = SCRATCH_WORDS + r.pick(&[0, 0, 1, 9]);
+    let out = whole_words(states.len()) + r.pick(&[0, 1, 5]);
     let (number, out) = compare(r, &t.bytes(), rule as u32, states, scratch, out);
-    assert_eq!(number, 0);
+    assert_eq!(number, OK);
     (0..states.len()).map(|i| out[i / 64] >> (i % 64) & 1 == 1).collect()
 }
 
-fn any_table(r: &mut Random, count: usize, longest: u16) -> Table {
+fn any_table(r: &mut Random, count: usize, longest: usize) -> Table {
     if r.chance(4) {
         redundant(r, count, longest)
     } else {
@@ -41,9 +44,9 @@ fn random_tables_on_short_traces() {
     let mut r = Random(11);
     let (mut yes, mut no) = (0u64, 0u64);
     for _ in 0..6_000 {
-        let count = r.below(64) as usize + 1;
-        let count = r.pick(&[count, count, 1, 64, count.min(6), count.min(6)]);
-        let longest = r.pick(&[4095, 4095, 300, 70, 9, 0]);
+        let count = r.below(MAX_NODES as u64) as usize + 1;
+        let count = r.pick(&[count, count, 1, MAX_NODES, count.min(6), count.min(6)]);
+        let longest = r.pick(&[MAX_DELAY, MAX_DELAY, 300, 70, 9, 0]);
         let t = any_table(&mut r, count, longest);
         let n = r.below(200) as usize;
         let n = r.pick(&[n, n, n.min(130), n.min(20), 0, 1, 63, 64, 65, 127, 128, 129]);
@@ -63,11 +66,11 @@ fn random_tables_on_short_traces() {
 fn random_tables_on_long_traces() {
     let mut r = Random(12);
     for round in 0..600 {
-        let count = if round % 10 == 0 { 64 } else { 1 + r.below(8) as usize };
-        let longest = r.pick(&[4095, 4095, 1000, 300]);
+        let count = if round % 10 == 0 { MAX_NODES } else { 1 + r.below(8) as usize };
+        let longest = r.pick(&[MAX_DELAY, MAX_DELAY, 1000, 300]);
         let t = any_table(&mut r, count, longest);
-        let n = 200 + r.below(4921) as usize;
-        let n = r.pick(&[n, n, 5120, 5119, 5057, 5056, 4096, 4095, 1024]);
+        let n = 200 + r.below(MAX_TRACE as u64 - 199) as usize;
+        let n = r.pick(&[n, n, MAX_TRACE, MAX_TRACE - 1, MAX_TRACE - 63, MAX_TRACE - 64, 4096, 4095, 1024]);
         let states = trace(&mut r, n);
         for rule in 0..t.rules.len().min(3) {
             accepted(&mut r, &t, rule, &states);
@@ -77,7 +80,7 @@ fn random_tables_on_long_traces() {
     for _ in 0..40 {
         let count = 1 + r.below(4) as usize;
         let t = table(&mut r, count, 300);
-        let n = r.pick(&[5120, 5119, 4097, 2000]);
+        let n = r.pick(&[MAX_TRACE, MAX_TRACE - 1, 4097, 2000]);
         let states = trace(&mut r, n);
         let got = accepted(&mut r, &t, 0, &states);
         assert!(got == t.verdicts(t.rules[0].watched as usize, &states), "{t:?}");
@@ -96,7 +99,8 @@ fn temporal(kind: u8, lo: u16, hi: u16) -> Table {
 #[test]
 fn intervals_at_the_limits() {
     let mut r = Random(13);
-    let limits = [0u16, 1, 2, 31, 32, 62, 63, 64, 65, 127, 128, 129, 1023, 1024, 4032, 4084, 4094, 4095];
+    const LONGEST: u16 = MAX_INTERVAL as u16;
+    let limits = [0, 1, 2, 31, 32, 62, 63, 64, 65, 127, 128, 129, 1023, 1024, 4032, 4084, LONGEST - 1, LONGEST];
     for kind in 7..=10 {
         for lo in limits {
             for hi in limits {
@@ -104,8 +108,8 @@ fn intervals_at_the_limits() {
                     continue;
                 }
                 let t = temporal(kind, lo, hi);
-                let wide = r.below(5121) as usize;
-                for n in [0, 1, 64, 200, wide, 5120] {
+                let wide = r.below(MAX_TRACE as u64 + 1) as usize;
+                for n in [0, 1, 64, 200, wide, MAX_TRACE] {
                     let states = trace(&mut r, n);
                     let got = accepted(&mut r, &t, 0, &states);
                     if n <= 200 {
@@ -188,14 +192,14 @@ fn long_windows() {
     let mut r = Random(17);
     for kind in 7..=10 {
         let mut decided = Decided::default();
-        let mut tops = vec![1000, 1023, 1024, 2047, 2048, 4084, 4094, 4095];
-        tops.extend((0..20).map(|_| 1000 + r.below(3096) as usize));
+        let mut tops = vec![1000, 1023, 1024, 2047, 2048, 4084, MAX_INTERVAL - 1, MAX_INTERVAL];
+        tops.extend((0..20).map(|_| 1000 + r.below(MAX_INTERVAL as u64 - 999) as usize));
         for hi in tops {
             for lo in [0, 1, r.below(hi as u64 + 1) as usize, hi - 1, hi] {
                 let t = temporal(kind, lo as u16, hi as u16);
-                let wide = hi + r.below(5121 - hi as u64) as usize;
+                let wide = hi + r.below((MAX_TRACE + 1 - hi) as u64) as usize;
                 let short = 1 + r.below(hi as u64) as usize;
-                for n in [5120, 5119, wide, hi + 1, hi, short, lo + 2, lo + 1] {
+                for n in [MAX_TRACE, MAX_TRACE - 1, wide, hi + 1, hi, short, lo + 2, lo + 1] {
                     let mut states = quiet_trace(&mut r, kind, n);
                     if n > hi + 1 && r.chance(2) {
                         // One tick that is the last of a window and behind the window before it, with nothing else in the two.
@@ -221,7 +225,7 @@ fn the_two_evaluators_agree() {
     let mut r = Random(14);
     for _ in 0..2_000 {
         let count = 1 + r.below(30) as usize;
-        let longest = r.pick(&[4095, 300, 70, 9]);
+        let longest = r.pick(&[MAX_DELAY, 300, 70, 9]);
         let t = any_table(&mut r, count, longest);
         let n = r.below(120) as usize;
         let states = trace(&mut r, n);
@@ -232,7 +236,7 @@ fn the_two_evaluators_agree() {
 #[test]
 fn refusals_and_their_order() {
     let mut r = Random(15);
-    let mut seen = [0u32; 26];
+    let mut seen = [0u32; NUMBERS];
     for _ in 0..40 {
         for case in 0..32u32 {
             let is = |bit: u32| case >> bit & 1 == 1;
@@ -245,30 +249,30 @@ fn refusals_and_their_order() {
             let rules = t.rules.len() as u32;
             let rule = if is(1) { r.pick(&[rules, rules + 1, 8, 256, u32::MAX]) } else { r.below(rules as u64) as u32 };
             let few = r.below(300) as usize;
-            let n = if is(2) { r.pick(&[5121, 5122, 6000]) } else { r.pick(&[0, 1, few, few, 5120]) };
-            let scratch = if is(3) { r.pick(&[0, 1, 5279]) } else { 5280 };
-            let needed = n.div_ceil(64);
+            let n = if is(2) { r.pick(&[MAX_TRACE + 1, MAX_TRACE + 2, 6000]) } else { r.pick(&[0, 1, few, few, MAX_TRACE]) };
+            let scratch = if is(3) { r.pick(&[0, 1, SCRATCH_WORDS - 1]) } else { SCRATCH_WORDS };
+            let needed = whole_words(n);
             // No length of out is too short for no states.
             let out = if is(4) { r.pick(&[0, needed.saturating_sub(1)]) } else { needed };
             let states = trace(&mut r, n);
             let (number, _) = compare(&mut r, &bytes, rule, &states, scratch, out);
             let wanted = if is(0) {
-                25
+                UNSOUND
             } else if is(1) {
-                21
+                ABSENT
             } else if is(2) {
-                22
+                STATES
             } else if is(3) || out < needed {
-                23
+                BUFFER
             } else {
-                0
+                OK
             };
             assert_eq!(number, wanted);
             seen[number as usize] += 1;
         }
     }
-    for number in [0, 21, 22, 23, 25] {
-        assert!(seen[number] > 20, "{number}");
+    for number in [OK, ABSENT, STATES, BUFFER, UNSOUND] {
+        assert!(seen[number as usize] > 20, "{number}");
     }
 }
 

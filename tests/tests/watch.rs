@@ -1,4 +1,6 @@
 //! The program watch, run in a folder of its own with a rules.bin and states on standard input, against `program::expected`.
+use juntreak_tests::header::limits::{BOOK_BYTES, MAX_BLOCK, MAX_DELAY, MAX_NAME, MAX_NODES, MAX_RULES, MAX_SIGNAL, MAX_STATE, RECORD_BYTES, TABLE_BYTES};
+use juntreak_tests::header::refusals::{ARGUMENT, FORM, FULL, HEAD, INTERVAL, LENGTH, LINK, LONG, NAME, OK, OPERAND, RULELESS};
 use juntreak_tests::library;
 use juntreak_tests::model::{self, Node, Rule, Table};
 use juntreak_tests::place::{watch, Folder};
@@ -159,13 +161,13 @@ fn same_lines(got: &[u8], want: &[u8]) {
 /// The delay of the first rule in the simplified table. It is the library's own, because the simplified table is free within its
 /// promises, and with it how many verdicts precede a bad line. Everything else that is expected comes from the table of the book.
 fn simple_delay(book: &[u8]) -> usize {
-    let mut table = [0; library::TABLE];
-    if library::read(book, &mut table).0 != 0 {
+    let mut table = [0; TABLE_BYTES];
+    if library::read(book, &mut table).0 != OK {
         return 0;
     }
-    assert_eq!(library::simplify(&mut table), 0);
+    assert_eq!(library::simplify(&mut table), OK);
     let (number, delay) = library::delay(&table, 0);
-    assert_eq!(number, 0);
+    assert_eq!(number, OK);
     assert!(delay <= model::read(book).unwrap().rule_delay(0));
     delay as usize
 }
@@ -267,7 +269,7 @@ fn with_line(input: &[u8], at: usize, line: &[u8]) -> Vec<u8> {
 }
 
 /// The book of document 01's worked example.
-const WORKED: [u8; 48] = [
+const WORKED: [u8; 4 * RECORD_BYTES] = [
     0, 0, 0, 0, 0, 0, 0, 0, 1, 0, 0, 0, //
     1, 0, 0, 0, 0, 0, 0, 0, 2, 0, 0, 0, //
     7, 0, 1, 0, 3, 0, 1, 0, 3, 0, 0, 0, //
@@ -300,12 +302,12 @@ fn random_length(r: &mut Random) -> usize {
 
 /// A random table whose first rule has any name.
 fn random_table(r: &mut Random) -> Table {
-    let count = if r.chance(30) { 64 } else { 1 + r.below(12) as usize };
-    let longest = r.pick(&[4095, 4095, 1100, 300, 9, 0]);
+    let count = if r.chance(30) { MAX_NODES } else { 1 + r.below(12) as usize };
+    let longest = r.pick(&[MAX_DELAY, MAX_DELAY, 1100, 300, 9, 0]);
     let mut t = if r.chance(2) { redundant(r, count, longest) } else { table(r, count, longest) };
-    let shift = r.below(255) as u16;
+    let shift = r.below(MAX_NAME as u64) as u16;
     for rule in &mut t.rules {
-        rule.name = (rule.name + shift) % 255 + 1;
+        rule.name = (rule.name + shift) % MAX_NAME as u16 + 1;
     }
     t
 }
@@ -357,7 +359,7 @@ fn random_books_and_inputs() {
 fn lengths_and_delays() {
     let mut r = Random(42);
     for delay in [0, 1, 63, 64, 1022, 1023, 1024, 1025, 2048, 4094, 4095] {
-        let b = finally_book(1 + r.below(255) as u16, delay);
+        let b = finally_book(1 + r.below(MAX_NAME as u64) as u16, delay);
         assert_eq!(simple_delay(&b), delay as usize);
         for lines in [0, 1, 2, 65, 1022, 1023, 1024, 1025, 2047, 2048, 2049, 3072, 4095, 4096, 5119, 5120, 5121, 9217] {
             let mut input = random_text(&mut r, lines);
@@ -408,19 +410,20 @@ fn long_and_repeated_bad_lines() {
     let input = with_line(&with_line(&random_text(&mut r, 1100), 1080, b"x"), 1050, b"x");
     let want = compare(&b, &input);
     assert!(want.ends_with(b"bad line 1051\n"));
-    assert_eq!(want.split_inclusive(|b| *b == 10).count(), 1024 - 5 + 1);
+    assert_eq!(want.split_inclusive(|b| *b == 10).count(), MAX_BLOCK - 5 + 1);
 }
 
 /// Each signal of states at the limits of their values, with every count of leading zeros that 10 digits allow.
 #[test]
 fn values_and_leading_zeros() {
+    const LARGEST: u32 = MAX_STATE as u32;
     let mut input = vec![];
-    for value in [0u32, 1, 9, 10, 99, 1 << 16, 999_999_999, 1_000_000_000, 1 << 31, 2_147_483_647, 4_294_967_294, 4_294_967_295] {
+    for value in [0, 1, 9, 10, 99, 1 << 16, 999_999_999, 1_000_000_000, 1 << 31, 2_147_483_647, LARGEST - 1, LARGEST] {
         for width in 1..=10 {
             writeln!(input, "{value:0width$}").unwrap();
         }
     }
-    for signal in 0..32 {
+    for signal in 0..=MAX_SIGNAL as u8 {
         let b = book_of(vec![Node { arg: signal, ..SIGNAL }], &[(signal as u16 + 99, 0)]);
         let want = compare(&b, &input);
         assert_eq!(want.split_inclusive(|b| *b == 10).count(), 120);
@@ -452,20 +455,20 @@ fn refused_books() {
         b[at] = byte;
         b
     };
-    let rules = |n: u16| (1..=n).map(|name| (name, 0)).collect::<Vec<_>>();
+    let rules = |n: usize| (1..=n as u16).map(|name| (name, 0)).collect::<Vec<_>>();
     let books = [
-        (1, WORKED[..47].to_vec()),
-        (2, head(0, 1)),
-        (3, head(8, 4)),
-        (4, head(12, 12)),
-        (5, head(13, 32)),
-        (6, head(29, 16)),
-        (7, head(30, 3)),
-        (8, book_of(vec![SIGNAL; 65], &[(1, 0)])),
-        (8, book_of(vec![SIGNAL], &rules(9))),
-        (9, long(4095)),
-        (10, book_of(vec![SIGNAL], &[(3, 0), (4, 0), (3, 0)])),
-        (11, book_of(vec![SIGNAL], &[])),
+        (LENGTH, WORKED[..47].to_vec()),
+        (HEAD, head(0, 1)),
+        (LINK, head(8, 4)),
+        (FORM, head(12, 12)),
+        (ARGUMENT, head(13, MAX_SIGNAL as u8 + 1)),
+        (INTERVAL, head(29, 16)),
+        (OPERAND, head(30, 3)),
+        (FULL, book_of(vec![SIGNAL; MAX_NODES + 1], &[(1, 0)])),
+        (FULL, book_of(vec![SIGNAL], &rules(MAX_RULES + 1))),
+        (LONG, long(MAX_DELAY as u16)),
+        (NAME, book_of(vec![SIGNAL], &[(3, 0), (4, 0), (3, 0)])),
+        (RULELESS, book_of(vec![SIGNAL], &[])),
     ];
     for (number, b) in books {
         for input in [&b"0\n1\n"[..], b"", b"x\n"] {
@@ -473,12 +476,12 @@ fn refused_books() {
             assert!(want.starts_with(format!("book {number} ").as_bytes()), "{number} {}", String::from_utf8_lossy(&want));
         }
     }
-    assert_ne!(compare(&long(4094), b"0\n"), b"book 9 3\n");
+    assert_ne!(compare(&long(MAX_DELAY as u16 - 1), b"0\n"), format!("book {LONG} 3\n").into_bytes());
     for record in [1, 9, 10, 99, 100, 199, 200, 254] {
-        let mut b = vec![0; 255 * 12];
+        let mut b = vec![0; BOOK_BYTES];
         b[8] = record;
-        b[12 * record as usize] = 12;
-        assert_eq!(compare(&b, b"1\n"), format!("book 4 {record}\n").into_bytes());
+        b[RECORD_BYTES * record as usize] = 12;
+        assert_eq!(compare(&b, b"1\n"), format!("book {FORM} {record}\n").into_bytes());
     }
 }
 
@@ -489,15 +492,15 @@ fn lengths_of_the_book() {
         same_lines(&printed(&Folder::empty(), input), b"book 1 0\n");
     }
     let mut r = Random(46);
-    for length in [0usize, 1, 11, 12, 24, 36, 47, 48, 49, 60, 3047, 3048, 3049, 3059, 3060, 3061, 3071, 3072, 4096, 6120, 65536, 1_000_000] {
+    for length in [0, 1, 11, 12, 24, 36, 47, 48, 49, 60, 3047, 3048, 3049, BOOK_BYTES - 1, BOOK_BYTES, BOOK_BYTES + 1, 3071, 3072, 4096, 6120, 65536, 1_000_000] {
         // The records behind the book are spare.
         let mut b = WORKED.to_vec();
-        b.extend((0..length.saturating_sub(48)).map(|_| r.next() as u8));
+        b.extend((0..length.saturating_sub(WORKED.len())).map(|_| r.next() as u8));
         b.truncate(length);
         let want = compare(&b, b"0\n0\n1\n0\n");
-        let told = if length % 12 != 0 || length == 0 || length > 3060 { &b"book 1 0\n"[..] } else { b"" };
+        let told = if length % RECORD_BYTES != 0 || length == 0 || length > BOOK_BYTES { &b"book 1 0\n"[..] } else { b"" };
         assert!(want.starts_with(told));
-        assert_eq!(length >= 48 && told.is_empty(), want.starts_with(b"7 0 1\n7 1 1\n"), "{length}");
+        assert_eq!(length >= WORKED.len() && told.is_empty(), want.starts_with(b"7 0 1\n7 1 1\n"), "{length}");
     }
 }
 
@@ -566,7 +569,7 @@ fn live_pipe() {
     let mut r = Random(50);
     for delay in [0, 3, 1000, 1023, 1024, 1500, 4095] {
         let b = finally_book(8, delay);
-        let input = random_text(&mut r, 6 * 1024 + 100);
+        let input = random_text(&mut r, 6 * MAX_BLOCK + 100);
         let all = wanted(&b, &input);
         let ends = |text: &[u8]| -> Vec<usize> { (1..=text.len()).filter(|i| text[i - 1] == 10).collect() };
         let (read, print) = (ends(&input), ends(&all));
@@ -574,13 +577,13 @@ fn live_pipe() {
         let (mut running, mut pipe) = Running::piped(&folder);
         let mut sent = 0;
         for block in 1..=6 {
-            let upto = read[1024 * block - 1];
+            let upto = read[MAX_BLOCK * block - 1];
             // The last byte of the block, which completes its last line, comes alone.
             pipe.write_all(&input[sent..upto - 1]).unwrap();
             sleep(Duration::from_millis(1));
             pipe.write_all(&input[upto - 1..upto]).unwrap();
             sent = upto;
-            let given = (1024 * block).saturating_sub(delay as usize);
+            let given = (MAX_BLOCK * block).saturating_sub(delay as usize);
             let bytes = if given == 0 { 0 } else { print[given - 1] };
             same_lines(running.wait_for(bytes), &all[..bytes]);
         }
@@ -612,7 +615,7 @@ fn full() -> Stdio {
 /// Standard output without room: for a block's verdicts while the pipe is open, for the last ones, for a bad line and for a refusal.
 #[test]
 fn failed_writes() {
-    let input = random_text(&mut Random(51), 1024);
+    let input = random_text(&mut Random(51), MAX_BLOCK);
     for (rules, input, open) in [
         (&finally_book(8, 5)[..], &input[..], true),
         (&WORKED, b"0\n0\n", false),

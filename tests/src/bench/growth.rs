@@ -1,8 +1,9 @@
 //! How the time of a session grows: nanoseconds per state, beside the twin and the queue-based monitor.
 use super::clock::{in_turns, Contestant};
 use super::markdown::{figure, number, table};
-use super::runs::{self, dense, with_density, Buffers, Proved, Sessions, Twin, BLOCK};
+use super::runs::{self, dense, with_density, Buffers, Proved, Sessions, Twin};
 use crate::formulas;
+use crate::header::limits::MAX_BLOCK;
 use crate::model::Table;
 
 const STATES: usize = 500_000;
@@ -30,7 +31,8 @@ fn times<const N: usize>(timed: [Timed; N]) -> [f64; N] {
 }
 
 fn row(name: String, t: &Table, states: &[u32]) -> Vec<String> {
-    let [proved, twin, ticks, blocks] = times([session::<Proved>(t, states, BLOCK), session::<Twin>(t, states, BLOCK), queue(t, states, 1), queue(t, states, BLOCK)]);
+    let [proved, twin, ticks, blocks] =
+        times([session::<Proved>(t, states, MAX_BLOCK), session::<Twin>(t, states, MAX_BLOCK), queue(t, states, 1), queue(t, states, MAX_BLOCK)]);
     vec![name, figure(proved), figure(twin), number(proved / twin, 2), figure(ticks), figure(blocks)]
 }
 
@@ -39,7 +41,7 @@ fn by_block(states: &[u32]) {
     for (name, t) in formulas::all() {
         // Short blocks take long, so they get fewer states.
         let fed = |k: usize| session::<Proved>(&t, &states[..(10_000 * k).min(STATES)], k);
-        let cells = times([fed(1), fed(16), fed(256), fed(1024), queue(&t, states, 1)]).map(figure);
+        let cells = times([fed(1), fed(16), fed(256), fed(MAX_BLOCK), queue(&t, states, 1)]).map(figure);
         rows.push([vec![name.to_string()], cells.to_vec()].concat());
     }
     table("Time per state by block length, in ns, and that of the queue tick by tick:", &["Formula", "1", "16", "256", "1,024", "queue"], &rows);

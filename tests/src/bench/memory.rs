@@ -1,7 +1,10 @@
 //! The memory of a session: the lent buffers, and the stack of each call, found by running it on a painted one.
 use super::markdown::{number, table};
-use super::runs::{dense, Buffers, BLOCK};
+use super::runs::{dense, Buffers};
 use crate::formulas;
+use crate::header::limits::{CLOSE_WORDS, FEED_WORDS, HISTORY_WORDS, MAX_BLOCK, MAX_NODES, MAX_TRACE, SCRATCH_WORDS, SESSION_BYTES};
+use crate::header::refusals::OK;
+use crate::header::whole_words;
 use crate::library::{self, SessionBytes, TableBytes};
 use crate::model::Table;
 use crate::queue::Monitor;
@@ -50,9 +53,9 @@ fn stack_of(_: impl FnMut()) -> Option<usize> {
 
 /// A session that has seen `seen` states, and its buffers.
 fn under_way(table: &TableBytes, seen: usize) -> (SessionBytes, Buffers) {
-    let (mut s, mut b) = ([0; library::SESSION], Buffers::default());
-    assert_eq!(library::open(table, 0, &mut s), 0);
-    for block in dense(seen).chunks(BLOCK) {
+    let (mut s, mut b) = ([0; SESSION_BYTES], Buffers::default());
+    assert_eq!(library::open(table, 0, &mut s), OK);
+    for block in dense(seen).chunks(MAX_BLOCK) {
         library::feed(&mut s, block, &mut b.history, &mut b.scratch, &mut b.out);
     }
     (s, b)
@@ -60,23 +63,23 @@ fn under_way(table: &TableBytes, seen: usize) -> (SessionBytes, Buffers) {
 
 /// The stacks of the accepted calls over one table.
 fn stacks_of(t: &Table) -> [Option<usize>; 6] {
-    let (states, bytes) = (dense(5120), t.bytes());
+    let (states, bytes) = (dense(MAX_TRACE), t.bytes());
     let book = random::book(&mut Random(1), t);
     let (mut session, mut b) = under_way(&bytes, 5000);
-    let (mut ended, mut table, mut opened, mut out) = (session, bytes, session, [0; 80]);
+    let (mut ended, mut table, mut opened, mut out) = (session, bytes, session, [0; whole_words(MAX_TRACE)]);
     [
-        stack_of(|| assert_eq!(library::read(&book, &mut table), (0, 0))),
-        stack_of(|| assert_eq!(library::simplify(&mut table), 0)),
-        stack_of(|| assert_eq!(library::open(&bytes, 0, &mut opened), 0)),
-        stack_of(|| assert_eq!(library::feed(&mut session, &states[..BLOCK], &mut b.history, &mut b.scratch, &mut b.out).0, 0)),
-        stack_of(|| assert_eq!(library::close(&mut ended, &b.history, &mut b.scratch, &mut b.out).0, 0)),
-        stack_of(|| assert_eq!(library::verdicts(&bytes, 0, &states, &mut b.scratch, &mut out), 0)),
+        stack_of(|| assert_eq!(library::read(&book, &mut table), (OK, 0))),
+        stack_of(|| assert_eq!(library::simplify(&mut table), OK)),
+        stack_of(|| assert_eq!(library::open(&bytes, 0, &mut opened), OK)),
+        stack_of(|| assert_eq!(library::feed(&mut session, &states[..MAX_BLOCK], &mut b.history, &mut b.scratch, &mut b.out).0, OK)),
+        stack_of(|| assert_eq!(library::close(&mut ended, &b.history, &mut b.scratch, &mut b.out).0, OK)),
+        stack_of(|| assert_eq!(library::verdicts(&bytes, 0, &states, &mut b.scratch, &mut out), OK)),
     ]
 }
 
 /// The largest stack of each function, over the benchmarks' formulas, one of 64 nodes, and windows of the length that splits into most parts.
 fn stacks() -> Vec<Vec<String>> {
-    let tables = formulas::all().into_iter().map(|f| f.1).chain([formulas::of_nodes(64), formulas::finally(0, 4084), formulas::until(0, 4084)]);
+    let tables = formulas::all().into_iter().map(|f| f.1).chain([formulas::of_nodes(MAX_NODES as u8), formulas::finally(0, 4084), formulas::until(0, 4084)]);
     let all: Vec<_> = tables.map(|t| stacks_of(&t)).collect();
     let names = ["juntreak_read", "juntreak_simplify", "juntreak_open", "juntreak_feed", "juntreak_close", "juntreak_verdicts"];
     let largest = |i: usize| all.iter().map(|x| x[i]).max().unwrap();
@@ -89,11 +92,11 @@ fn bytes(n: usize) -> String {
 
 pub fn run() {
     let lent = [
-        ("session", "558 bytes", library::SESSION),
-        ("history", "4,095 u32", 4 * 4095),
-        ("scratch", "5,280 u64", 8 * 5280),
-        ("out", "64 u64 (a feed needs 16)", 8 * 64),
-        ("block", "1,024 u32", 4 * BLOCK),
+        ("session", format!("{} bytes", bytes(SESSION_BYTES)), SESSION_BYTES),
+        ("history", format!("{} u32", bytes(HISTORY_WORDS)), 4 * HISTORY_WORDS),
+        ("scratch", format!("{} u64", bytes(SCRATCH_WORDS)), 8 * SCRATCH_WORDS),
+        ("out", format!("{CLOSE_WORDS} u64 (a feed needs {FEED_WORDS})"), 8 * CLOSE_WORDS),
+        ("block", format!("{} u32", bytes(MAX_BLOCK)), 4 * MAX_BLOCK),
     ];
     let mut rows: Vec<_> = lent.iter().map(|(name, what, n)| vec![name.to_string(), what.to_string(), bytes(*n)]).collect();
     rows.push(vec!["together".into(), "".into(), bytes(lent.iter().map(|x| x.2).sum())]);
@@ -102,6 +105,6 @@ pub fn run() {
     table("Stack of one call, in bytes:", &["Function", "Stack"], &stacks());
 
     let queues = |t, block| bytes(Monitor::new(t, 0, block).queue_bytes());
-    let rows: Vec<_> = formulas::all().iter().map(|(name, t)| vec![name.to_string(), queues(t, 1), queues(t, BLOCK)]).collect();
+    let rows: Vec<_> = formulas::all().iter().map(|(name, t)| vec![name.to_string(), queues(t, 1), queues(t, MAX_BLOCK)]).collect();
     table("Queues of the queue-based monitor, in bytes:", &["Formula", "tick by tick", "in blocks"], &rows);
 }

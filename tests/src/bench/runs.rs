@@ -1,5 +1,7 @@
 //! A stream of states run through each contestant.
 use super::clock::Laps;
+use crate::header::limits::{CLOSE_WORDS, HISTORY_WORDS, MAX_BLOCK, SCRATCH_WORDS, SESSION_BYTES};
+use crate::header::refusals::OK;
 use crate::library::{self, SessionBytes, TableBytes};
 use crate::model::Table;
 use crate::naive::Stream;
@@ -8,10 +10,8 @@ use crate::random::Random;
 use crate::twin;
 use std::hint::black_box;
 
-/// The longest block of a feed.
-pub const BLOCK: usize = 1024;
 /// Runs are timed in parts of so many states.
-const PART: usize = 4 * BLOCK;
+const PART: usize = 4 * MAX_BLOCK;
 
 /// What a session needs beside its bytes.
 pub struct Buffers {
@@ -22,11 +22,11 @@ pub struct Buffers {
 
 impl Default for Buffers {
     fn default() -> Buffers {
-        Buffers { history: vec![0; 4095], scratch: vec![0; 5280], out: vec![0; 64] }
+        Buffers { history: vec![0; HISTORY_WORDS], scratch: vec![0; SCRATCH_WORDS], out: vec![0; CLOSE_WORDS] }
     }
 }
 
-/// The three calls of a session; each answers with the number 0.
+/// The three calls of a session; each is accepted.
 pub trait Sessions {
     fn open(table: &TableBytes) -> SessionBytes;
     fn feed(s: &mut SessionBytes, block: &[u32], b: &mut Buffers) -> u32;
@@ -37,13 +37,13 @@ pub struct Proved;
 pub struct Twin;
 
 fn accepted<T>((number, answer): (u32, T)) -> T {
-    assert_eq!(number, 0);
+    assert_eq!(number, OK);
     answer
 }
 
 impl Sessions for Proved {
     fn open(table: &TableBytes) -> SessionBytes {
-        let mut s = [0; library::SESSION];
+        let mut s = [0; SESSION_BYTES];
         accepted((library::open(table, 0, &mut s), s))
     }
     fn feed(s: &mut SessionBytes, block: &[u32], b: &mut Buffers) -> u32 {
@@ -56,7 +56,7 @@ impl Sessions for Proved {
 
 impl Sessions for Twin {
     fn open(table: &TableBytes) -> SessionBytes {
-        let mut s = [0; library::SESSION];
+        let mut s = [0; SESSION_BYTES];
         accepted((twin::open(table, 0, &mut s), s))
     }
     fn feed(s: &mut SessionBytes, block: &[u32], b: &mut Buffers) -> u32 {
@@ -101,7 +101,7 @@ fn through_queue(t: &Table, states: &[u32], block: usize, laps: &mut Laps, mut g
 fn through_naive(t: &Table, states: &[u32], laps: &mut Laps, mut give: impl FnMut(bool)) {
     let mut stream = Stream::new(t, 0);
     for part in states.chunks(PART) {
-        part.chunks(BLOCK).for_each(|block| stream.feed(block, &mut give));
+        part.chunks(MAX_BLOCK).for_each(|block| stream.feed(block, &mut give));
         laps.lap();
     }
 }

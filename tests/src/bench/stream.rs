@@ -1,8 +1,9 @@
 //! The streaming session beside the twin, the queue-based monitor and the naive stream.
 use super::clock::{geometric_mean, in_turns};
 use super::markdown::{figure, number, table};
-use super::runs::{self, dense, Buffers, Proved, Twin, BLOCK};
+use super::runs::{self, dense, Buffers, Proved, Twin};
 use crate::formulas::{self, Named};
+use crate::header::limits::MAX_BLOCK;
 use crate::model::Table;
 
 const STATES: usize = 5_000_000;
@@ -24,17 +25,17 @@ pub struct Speeds {
 
 /// All contestants give the same verdicts, in the same order, as far as they give them.
 fn check(name: &str, t: &Table, states: &[u32]) {
-    let right = runs::session_verdicts::<Proved>(&t.bytes(), states, BLOCK);
+    let right = runs::session_verdicts::<Proved>(&t.bytes(), states, MAX_BLOCK);
     assert_eq!(right.len(), states.len());
     let agrees = |who: &str, got: Vec<bool>, states: usize| {
         let settled = states - t.rule_delay(0) as usize;
         assert!(got.len() >= settled && got[..] == right[..got.len()], "{name}: {who}");
     };
-    let twins = runs::session_verdicts::<Twin>(&t.bytes(), states, BLOCK);
+    let twins = runs::session_verdicts::<Twin>(&t.bytes(), states, MAX_BLOCK);
     assert_eq!(twins.len(), states.len());
     agrees("twin", twins, states.len());
     agrees("queue", runs::queue_verdicts(t, states, 1), states.len());
-    agrees("queue in blocks", runs::queue_verdicts(t, states, BLOCK), states.len());
+    agrees("queue in blocks", runs::queue_verdicts(t, states, MAX_BLOCK), states.len());
     agrees("naive", runs::naive_verdicts(t, &states[..NAIVE_STATES]), NAIVE_STATES);
 }
 
@@ -47,10 +48,10 @@ fn measure((name, t): Named, states: &[u32]) -> Speeds {
     let times = in_turns(
         ROUNDS,
         [
-            Box::new(|laps| *p = runs::session::<Proved>(&bytes, states, BLOCK, &mut a, laps)),
-            Box::new(|laps| *w = runs::session::<Twin>(&bytes, states, BLOCK, &mut b, laps)),
+            Box::new(|laps| *p = runs::session::<Proved>(&bytes, states, MAX_BLOCK, &mut a, laps)),
+            Box::new(|laps| *w = runs::session::<Twin>(&bytes, states, MAX_BLOCK, &mut b, laps)),
             Box::new(|laps| *q = runs::queue(&t, states, 1, laps)),
-            Box::new(|laps| *k = runs::queue(&t, states, BLOCK, laps)),
+            Box::new(|laps| *k = runs::queue(&t, states, MAX_BLOCK, laps)),
             Box::new(|laps| *n = runs::naive(&t, &states[..NAIVE_STATES], laps)),
         ],
     );

@@ -3,25 +3,29 @@ use super::clock::{in_turns, Contestant};
 use super::markdown::{figure, number, table};
 use super::runs::{dense, with_density};
 use crate::formulas::{self, Named};
+use crate::header::limits::{MAX_TRACE, SCRATCH_WORDS};
+use crate::header::refusals::OK;
+use crate::header::whole_words;
+use crate::library::{self, TableBytes};
 use crate::model::Table;
-use crate::{library, twin};
+use crate::twin;
 use std::hint::black_box;
 
-const STATES: usize = 5120;
+const OUT_WORDS: usize = whole_words(MAX_TRACE);
 const CALLS: usize = 20;
 
-type Verdicts = fn(&[u8; 546], u32, &[u32], &mut [u64], &mut [u64]) -> u32;
+type Verdicts = fn(&TableBytes, u32, &[u32], &mut [u64], &mut [u64]) -> u32;
 
 /// The verdicts as words, from one call.
-fn words(f: Verdicts, bytes: &[u8; 546], states: &[u32]) -> Vec<u64> {
-    let (mut scratch, mut out) = (vec![0; 5280], vec![0; 80]);
-    assert_eq!(f(bytes, 0, states, &mut scratch, &mut out), 0);
+fn words(f: Verdicts, bytes: &TableBytes, states: &[u32]) -> Vec<u64> {
+    let (mut scratch, mut out) = (vec![0; SCRATCH_WORDS], vec![0; OUT_WORDS]);
+    assert_eq!(f(bytes, 0, states, &mut scratch, &mut out), OK);
     out
 }
 
 /// A contestant of `CALLS` calls.
-fn calls<'a>(f: Verdicts, bytes: [u8; 546], states: &'a [u32]) -> Contestant<'a> {
-    let (mut scratch, mut out) = (vec![0; 5280], vec![0; 80]);
+fn calls<'a>(f: Verdicts, bytes: TableBytes, states: &'a [u32]) -> Contestant<'a> {
+    let (mut scratch, mut out) = (vec![0; SCRATCH_WORDS], vec![0; OUT_WORDS]);
     Box::new(move |_| {
         for _ in 0..CALLS {
             black_box(f(black_box(&bytes), 0, black_box(states), &mut scratch, &mut out));
@@ -48,7 +52,7 @@ fn beside_naive(name: &str, t: &Table, states: &[u32], asked: &str) -> Vec<Strin
 }
 
 pub fn run() {
-    let (half, quiet) = (dense(STATES), with_density(STATES, 1.0 / 2000.0));
+    let (half, quiet) = (dense(MAX_TRACE), with_density(MAX_TRACE, 1.0 / 2000.0));
     let rows: Vec<_> = formulas::all().into_iter().map(|f| beside_twin(f, &half)).collect();
     table("Whole traces of 5,120 states, density 0.5, one call:", &["Formula", "proved", "twin", "ratio", "asked"], &rows);
 

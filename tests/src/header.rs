@@ -1,0 +1,31 @@
+//! The limits and refusal numbers of include/juntreak.h, without their JUNTREAK_; build.rs reads them from there.
+include!(concat!(env!("OUT_DIR"), "/header.rs"));
+
+/// More than every refusal number: the length of a list of counts by number.
+pub const NUMBERS: usize = refusals::UNSOUND as usize + 1;
+
+/// The least length of out for a whole trace of n states.
+pub const fn whole_words(n: usize) -> usize {
+    n.div_ceil(64)
+}
+
+/// Places in the bytes of a table and of a session.
+pub mod places {
+    use super::limits::TABLE_BYTES;
+
+    /// Node i, of 8 bytes.
+    pub const fn node_at(i: usize) -> usize {
+        2 + 8 * i
+    }
+
+    /// Rule i, of 4 bytes.
+    pub const fn rule_at(i: usize) -> usize {
+        514 + 4 * i
+    }
+
+    /// A session's rule number, of 4 bytes, behind its table.
+    pub const RULE_NUMBER_AT: usize = TABLE_BYTES;
+
+    /// The count of states that a session has seen, of 8 bytes.
+    pub const SEEN_AT: usize = RULE_NUMBER_AT + 4;
+}
