@@ -31,14 +31,16 @@ impl Laps {
 pub type Contestant<'a> = Box<dyn FnMut(&mut Laps) + 'a>;
 
 /// The time of each contestant in seconds: for each part of its run the least of all rounds, added up. So a disturbance spoils one part of one
-/// round only, however long the run is. The contestants take turns.
+/// round only, however long the run is. The contestants take turns, in every other round backwards: who runs right after a queue is slower for a
+/// while, and so nobody is that in every round.
 pub fn in_turns<const N: usize>(rounds: usize, mut contestants: [Contestant; N]) -> [f64; N] {
     let mut laps = [(); N].map(|_| Laps::default());
-    for _ in 0..rounds {
-        for (laps, run) in laps.iter_mut().zip(&mut contestants) {
-            laps.begin();
-            run(laps);
-            laps.lap();
+    for round in 0..rounds {
+        for k in 0..N {
+            let i = if round % 2 == 0 { k } else { N - 1 - k };
+            laps[i].begin();
+            contestants[i](&mut laps[i]);
+            laps[i].lap();
         }
     }
     laps.map(|l| l.least.iter().sum())
