@@ -56,6 +56,7 @@ module _ {ns : List Node} {marks : ℕ} {trace s₀ s s′ : List ℕ} (top i : 
   below j h m = kept-register (registerWords * i) (registerWords * j) (words n) s s′ (kept .0) (omega arith) (omega arith) (omega arith) ∙ r .at j h m
 
   here : marked marks i ≡ true → register (registerWords * i) (words n) s′ ≡ packed n (holds (formulaAt ns i) trace)
+  unfolding columnIn
   here m =
       let f = fit-as (x .kind) i x refl fitting in
       let operand : (j : ℕ) → j < i → marked marks j ≡ true → register (registerWords * j) (words n) s ≡ packed n (holds (formulaAt (take i ns) j) trace) =

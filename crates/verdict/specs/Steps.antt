@@ -4,7 +4,7 @@ use mathlib.Core.Bool.{Bool, true, false, _||_, _&&_}
 use mathlib.Core.List.{List}
 use Prim.Native.Nat.{ℕ, _+_, _-_, _*_, _≤_, _<_}
 use lib.ListN.{length, getD, take, drop}
-use Rattle.limits.specs.Limits.{maxNodes, maxInterval, maxTrace, registerWords, scratchWords}
+use Rattle.limits.specs.Limits.{maxNodes, maxTrace, registerWords, scratchWords}
 use Rattle.lists.specs.Bits.{bit, words, bitAt, pack, packed, below}
 use Rattle.mltl.specs.Mltl.{holds, eventually, opposite}
 use Rattle.column.specs.Column.{register, filled, flipped}
@@ -29,17 +29,7 @@ pub record Place (b m : ℕ) (xs : List ℕ) : Type 0 where
   pub small : m ≤ registerWords
   pub enough : scratchWords ≤ length xs
 
--- the registers at a and b
-pub record Operand (a b m : ℕ) (xs : List ℕ) : Type 0 where
-  pub before : a + registerWords ≤ b
-  pub small : m ≤ registerWords
-  pub enough : b + registerWords ≤ length xs
-
 -- ---- what stands in them
--- an interval that is not refused
-abbrev pub Interval : ℕ → ℕ → Type 0
-Interval lo hi = (lo ≤ hi) × (hi ≤ maxInterval)
-
 -- ys holds the column f in its register at b; below b, and from the end of the registers on, it is xs
 pub record Step (b m : ℕ) (f : ℕ → Bool) (xs ys : List ℕ) : Type 0 where
   pub here : register b m ys ≡ pack m f
@@ -66,7 +56,7 @@ nodeColumn Until x n states c d = untilOf (x .lo) (x .hi) (words n) c d
 nodeColumn Release x n states c d = releaseOf n (x .lo) (x .hi) (words n) c d
 
 -- the column of node x in a scratch xs
-abbrev pub columnIn : Node → ℕ → List ℕ → List ℕ → ℕ → Bool
+unfoldable pub columnIn : Node → ℕ → List ℕ → List ℕ → ℕ → Bool
 columnIn x n states xs = nodeColumn (opOf (x .kind)) x n states (register (registerWords * x .left) (words n) xs) (register (registerWords * x .right) (words n) xs)
 
 -- a node that can be computed at place i

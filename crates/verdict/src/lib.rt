@@ -1,22 +1,17 @@
 // Whole-trace verdicts: a register of bits for each node that the formula needs, run on words of 64.
 ghost use mathlib.Core.Path.{_≡_};
-ghost use mathlib.Core.Bool.{_&&_, _||_};
 ghost use mathlib.Core.List.{List, _++_};
 ghost use Prim.Native.Nat.{ℕ, _+_, _*_, _≤_, _<_};
 ghost use lib.Dec.{eqb};
 ghost use lib.ListN.{length};
 ghost use lib.Seq.{paste};
 ghost use Rattle.limits.specs.Limits.{maxNodes, registerWords};
-ghost use Rattle.lists.specs.Bits.{bitAt, words, below};
+ghost use Rattle.lists.specs.Bits.{words};
 ghost use Rattle.lists.specs.Choice.{pick, first};
-ghost use Rattle.mltl.specs.Mltl.{eventually, opposite};
-ghost use Rattle.column.specs.Column.{register, Laid, flipped, filled};
-ghost use Rattle.pair.specs.Pair.{both};
-ghost use Rattle.signal.specs.Signal.{signalColumn};
-ghost use Rattle.windows.specs.Windows.{untilOf, releaseOf};
+ghost use Rattle.column.specs.Column.{register};
 ghost use Rattle.verdict.specs.Verdict.{told, cleared, fitsTo, enough, Judged, wholeRows, Answered};
 ghost use Rattle.table.specs.Nodes.{formulaAt};
-ghost use Rattle.verdict.specs.Steps.{Interval, Place, Operand, Step, Maybe, columnIn, Computable, Needs, Run, Runnable, Ready};
+ghost use Rattle.verdict.specs.Steps.{Step, Maybe, columnIn, Computable, Needs, Run, Runnable, Ready};
 use limits::MAX_NODES;
 use limits::MAX_TRACE;
 use limits::REGISTER_WORDS;
@@ -29,113 +24,7 @@ const LEFT: usize = MAX_NODES * REGISTER_WORDS;
 
 const WORK: usize = LEFT + REGISTER_WORDS;
 
-// ---- nodes: registers at a and c of the operands, at b of the node, of which m words are used
-
-// Bit t of the register at b becomes bit t of the register at a.
-fn load(s: &mut [u64], a: usize, b: usize, m: usize)
-    requires { ⌜ Operand a b m (now s) ⌝ }
-    ensures { λ _. ⌜ Laid b m (bitAt (register a m (now (s .entry)))) (now (s .entry)) (now (s .exit)) ⌝ }
-{
-    let e = b + m;
-    pair::copy_into(&mut s[a..e], b - a);
-}
-
-// Bit t of the register at b becomes that bit and bit t of the register at a.
-fn and_with(s: &mut [u64], a: usize, b: usize, m: usize)
-    requires { ⌜ Operand a b m (now s) ⌝ }
-    ensures { λ _. ⌜ Laid b m (both _&&_ (register b m (now (s .entry))) (register a m (now (s .entry)))) (now (s .entry)) (now (s .exit)) ⌝ }
-{
-    let e = b + m;
-    pair::and_into(&mut s[a..e], b - a);
-}
-
-// Bit t of the register at b becomes that bit or bit t of the register at a.
-fn or_with(s: &mut [u64], a: usize, b: usize, m: usize)
-    requires { ⌜ Operand a b m (now s) ⌝ }
-    ensures { λ _. ⌜ Laid b m (both _||_ (register b m (now (s .entry))) (register a m (now (s .entry)))) (now (s .entry)) (now (s .exit)) ⌝ }
-{
-    let e = b + m;
-    pair::or_into(&mut s[a..e], b - a);
-}
-
-fn put_signal(s: &mut [u64], b: usize, m: usize, older: &[u32], newer: &[u32], i: u8)
-    requires { ⌜ Place b m (now s) ⌝ }
-    ensures { λ _. ⌜ Step b m (signalColumn i (now (older .entry) ++ now (newer .entry))) (now (s .entry)) (now (s .exit)) ⌝ }
-{
-    let e = b + m;
-    signal::pack_signal(&mut s[b..e], older, newer, i as usize);
-}
-
-fn put_fill(s: &mut [u64], b: usize, m: usize, n: usize)
-    requires { ⌜ Place b m (now s) ⌝ }
-    ensures { λ _. ⌜ Step b m (filled n) (now (s .entry)) (now (s .exit)) ⌝ }
-{
-    let e = b + m;
-    column::fill(&mut s[b..e], n);
-}
-
-fn put_not(s: &mut [u64], a: usize, b: usize, m: usize, n: usize)
-    requires { ⌜ Place b m (now s) × (a + registerWords ≤ b) ⌝ }
-    ensures { λ _. ⌜ Step b m (flipped n (register a m (now (s .entry)))) (now (s .entry)) (now (s .exit)) ⌝ }
-{
-    let e = b + m;
-    load(s, a, b, m);
-    column::complement(&mut s[b..e], n);
-}
-
-fn put_and(s: &mut [u64], a: usize, c: usize, b: usize, m: usize)
-    requires { ⌜ Place b m (now s) × (a + registerWords ≤ b) × (c + registerWords ≤ b) ⌝ }
-    ensures { λ _. ⌜ Step b m (both _&&_ (register a m (now (s .entry))) (register c m (now (s .entry)))) (now (s .entry)) (now (s .exit)) ⌝ }
-{
-    load(s, a, b, m);
-    and_with(s, c, b, m);
-}
-
-fn put_or(s: &mut [u64], a: usize, c: usize, b: usize, m: usize)
-    requires { ⌜ Place b m (now s) × (a + registerWords ≤ b) × (c + registerWords ≤ b) ⌝ }
-    ensures { λ _. ⌜ Step b m (both _||_ (register a m (now (s .entry))) (register c m (now (s .entry)))) (now (s .entry)) (now (s .exit)) ⌝ }
-{
-    load(s, a, b, m);
-    or_with(s, c, b, m);
-}
-
-fn put_some(s: &mut [u64], a: usize, b: usize, m: usize, lo: u16, hi: u16)
-    requires { ⌜ Place b m (now s) × (a + registerWords ≤ b) × Interval lo hi ⌝ }
-    ensures { λ _. ⌜ Step b m (eventually (64 * m) lo hi (bitAt (register a m (now (s .entry))))) (now (s .entry)) (now (s .exit)) ⌝ }
-{
-    let e = b + m;
-    load(s, a, b, m);
-    windows::some_later(&mut s[b..e], lo, hi);
-}
-
-fn put_all(s: &mut [u64], a: usize, b: usize, m: usize, lo: u16, hi: u16, n: usize)
-    requires { ⌜ Place b m (now s) × (a + registerWords ≤ b) × Interval lo hi ⌝ }
-    ensures { λ _. ⌜ Step b m (below n (opposite (eventually (64 * m) lo hi (flipped n (register a m (now (s .entry))))))) (now (s .entry)) (now (s .exit)) ⌝ }
-{
-    let e = b + m;
-    load(s, a, b, m);
-    windows::all_later(&mut s[b..e], lo, hi, n);
-}
-
-fn put_until(s: &mut [u64], a: usize, c: usize, b: usize, m: usize, lo: u16, hi: u16)
-    requires { ⌜ Place b m (now s) × (a + registerWords ≤ b) × (c + registerWords ≤ b) × Interval lo hi ⌝ }
-    ensures { λ _. ⌜ Step b m (untilOf lo hi m (register a m (now (s .entry))) (register c m (now (s .entry)))) (now (s .entry)) (now (s .exit)) ⌝ }
-{
-    let e = WORK + m;
-    load(s, c, b, m);
-    load(s, a, LEFT, m);
-    windows::until_later(&mut s[b..e], LEFT - b, WORK - b, lo, hi);
-}
-
-fn put_release(s: &mut [u64], a: usize, c: usize, b: usize, m: usize, lo: u16, hi: u16, n: usize)
-    requires { ⌜ Place b m (now s) × (a + registerWords ≤ b) × (c + registerWords ≤ b) × Interval lo hi ⌝ }
-    ensures { λ _. ⌜ Step b m (releaseOf n lo hi m (register a m (now (s .entry))) (register c m (now (s .entry)))) (now (s .entry)) (now (s .exit)) ⌝ }
-{
-    let e = WORK + m;
-    load(s, c, b, m);
-    load(s, a, LEFT, m);
-    windows::release_later(&mut s[b..e], LEFT - b, WORK - b, lo, hi, n);
-}
+// ---- nodes: m words of each register are used
 
 // How many bits of a constant's column are set: n for true.
 fn bits_of(kind: u8, n: usize) -> usize
@@ -157,18 +46,18 @@ fn window_step(s: &mut [u64], x: Node, i: usize, n: usize)
     let lo = x.lo;
     let hi = x.hi;
     if k == 7 {
-        put_some(s, a, b, m, lo, hi);
+        operators::put_some(s, a, b, m, lo, hi);
         return;
     }
     if k == 8 {
-        put_all(s, a, b, m, lo, hi, n);
+        operators::put_all(s, a, b, m, lo, hi, n);
         return;
     }
     if k == 9 {
-        put_until(s, a, c, b, m, lo, hi);
+        operators::put_until(s, a, c, b, LEFT, WORK, m, lo, hi);
         return;
     }
-    put_release(s, a, c, b, m, lo, hi, n);
+    operators::put_release(s, a, c, b, LEFT, WORK, m, lo, hi, n);
 }
 
 // The column of node x at place i, of any kind but a signal. No state is read.
@@ -186,18 +75,18 @@ fn stateless_step(s: &mut [u64], x: Node, i: usize, n: usize)
         return;
     }
     if k == 4 {
-        put_not(s, a, b, m, n);
+        operators::put_not(s, a, b, m, n);
         return;
     }
     if k == 5 {
-        put_and(s, a, c, b, m);
+        operators::put_and(s, a, c, b, m);
         return;
     }
     if k == 6 {
-        put_or(s, a, c, b, m);
+        operators::put_or(s, a, c, b, m);
         return;
     }
-    put_fill(s, b, m, bits_of(k, n));
+    operators::put_fill(s, b, m, bits_of(k, n));
 }
 
 // The column of node x at place i.
@@ -208,7 +97,7 @@ fn node_step(s: &mut [u64], x: Node, i: usize, n: usize, older: &[u32], newer: &
     let m = (n + 63) / 64;
     let b = REGISTER_WORDS * i;
     if x.kind == 1 {
-        put_signal(s, b, m, older, newer, x.arg);
+        operators::put_signal(s, b, m, older, newer, x.arg);
         return;
     }
     stateless_step(s, x, i, n);

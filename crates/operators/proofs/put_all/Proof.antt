@@ -1,0 +1,65 @@
+-- `operators::put_all` meets its contract. Assumes nothing.
+use Prim.Native.Nat.{_*_}
+use mathlib.Core.Bool.{not, true, _&&_}
+use mathlib.Core.Path.{ap, ap₂, sym, _≡_, _∙_}
+use borrow.Author.Needs.{needs}
+use borrow.Author.Tests.{not-false, not-true}
+use lib.Dec.{ltb}
+use lib.ListN.{length}
+use Rattle.lists.specs.Bits.{below}
+use Rattle.mltl.specs.Mltl.{eventually, opposite}
+use Rattle.interval.specs.Parts.{badInterval}
+use Rattle.windows.proofs.Results.{interval-is, all-turned}
+use Rattle.operators.specs.Operators.{allLaid, oneFits}
+use Rattle.operators.specs.Steps.{Operand}
+use Rattle.operators.proofs.Fits.{not-refused, one-is, places-fit, stays, turns}
+use Rattle.operators.proofs.Laws.{loaded}
+use Rattle.operators.proofs.put_all.Statement.{statement}
+use Rattle.operators.proofs.put_all.Tie as tie
+
+abbrev start : tie.After-bad-interval → tie.Start
+start c = c .before .before .before
+
+test : (c : tie.After-bad-interval) → let a = start c .args in
+    (c .before .one-fits .result && not (c .bad-interval .result)) ≡ (oneFits (a .a) (a .b) (a .m) (length (a .s .now)) && not (badInterval (a .lo) (a .hi)))
+test c = ap₂ _&&_ (c .before .one-fits .ensures) (ap not (c .bad-interval .ensures))
+
+fits : (c : tie.Else1) → let a = start (c .before) .args in (oneFits (a .a) (a .b) (a .m) (length (a .s .now)) && not (badInterval (a .lo) (a .hi))) ≡ true
+fits c = sym (test (c .before)) ∙ not-false _ (c .if1 .left)
+
+operand : (c : tie.Else1) → let a = start (c .before) .args in Operand (a .a) (a .b) (a .m) (a .s .now)
+operand c = let a = start (c .before) .args in one-is (places-fit (oneFits (a .a) (a .b) (a .m) (length (a .s .now))) (a .lo) (a .hi) (fits c))
+
+returns : tie.Need-returns
+returns c = let a = start (c .before) .args in stays (a .s .now) (allLaid (a .a) (a .b) (a .m) (a .lo) (a .hi) (a .n) (a .s .now)) (sym (test (c .before)) ∙ not-true _ (c .if1 .taken))
+
+add-e : tie.Need-add-e
+add-e c = let h = operand c .enough in search needs
+
+mul-all-later : tie.Need-mul-all-later
+mul-all-later c = let h = operand (c .before .before .before .before) .enough in search needs
+
+part-all-later-end : tie.Need-part-all-later-end
+part-all-later-end c = let h = operand (c .before .before .before .before) .enough in search needs
+
+returns-2 : tie.Need-returns-2
+returns-2 c =
+    let u = c .before .before .all-later in
+    let p = c .before .before .before .before .before .before in
+    let o = p .before .before in
+    let a = start (o .before) .args in
+    let i = interval-is (not-refused (oneFits (a .a) (a .b) (a .m) (length (a .s .now))) (a .lo) (a .hi) (fits o)) in
+    turns (a .s .now) (allLaid (a .a) (a .b) (a .m) (a .lo) (a .hi) (a .n) (a .s .now)) (fits o)
+    (loaded (λ k f. below (a .n) (opposite (eventually (64 * k) (a .lo) (a .hi) (λ t. ltb t (a .n) && not (f t))))) (u .last .0) (operand o) (p .load .ensures) (all-turned (i .0) (i .1) (a .n) (u .ensures)) .is)
+
+pub put-all-spec : {M : Type 1} → statement M
+put-all-spec =
+    tie.close
+    (tie.spec
+    (search needs) (search needs) returns add-e
+    (λ c κs. operand (c .before))
+    mul-all-later
+    (search needs) (search needs)
+    part-all-later-end
+    (search needs) (search needs)
+    returns-2)

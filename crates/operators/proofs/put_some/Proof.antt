@@ -1,0 +1,63 @@
+-- `operators::put_some` meets its contract. Assumes nothing.
+use Prim.Native.Nat.{_*_}
+use mathlib.Core.Bool.{not, true, _&&_}
+use mathlib.Core.Path.{ap, ap₂, sym, _≡_, _∙_}
+use borrow.Author.Needs.{needs}
+use borrow.Author.Tests.{not-false, not-true}
+use lib.ListN.{length}
+use Rattle.mltl.specs.Mltl.{eventually}
+use Rattle.interval.specs.Parts.{badInterval}
+use Rattle.windows.proofs.Results.{interval-is, some-turned}
+use Rattle.operators.specs.Operators.{someLaid, oneFits}
+use Rattle.operators.specs.Steps.{Operand}
+use Rattle.operators.proofs.Fits.{not-refused, one-is, places-fit, stays, turns}
+use Rattle.operators.proofs.Laws.{loaded}
+use Rattle.operators.proofs.put_some.Statement.{statement}
+use Rattle.operators.proofs.put_some.Tie as tie
+
+abbrev start : tie.After-bad-interval → tie.Start
+start c = c .before .before .before
+
+test : (c : tie.After-bad-interval) → let a = start c .args in
+    (c .before .one-fits .result && not (c .bad-interval .result)) ≡ (oneFits (a .a) (a .b) (a .m) (length (a .s .now)) && not (badInterval (a .lo) (a .hi)))
+test c = ap₂ _&&_ (c .before .one-fits .ensures) (ap not (c .bad-interval .ensures))
+
+fits : (c : tie.Else1) → let a = start (c .before) .args in (oneFits (a .a) (a .b) (a .m) (length (a .s .now)) && not (badInterval (a .lo) (a .hi))) ≡ true
+fits c = sym (test (c .before)) ∙ not-false _ (c .if1 .left)
+
+operand : (c : tie.Else1) → let a = start (c .before) .args in Operand (a .a) (a .b) (a .m) (a .s .now)
+operand c = let a = start (c .before) .args in one-is (places-fit (oneFits (a .a) (a .b) (a .m) (length (a .s .now))) (a .lo) (a .hi) (fits c))
+
+returns : tie.Need-returns
+returns c = let a = start (c .before) .args in stays (a .s .now) (someLaid (a .a) (a .b) (a .m) (a .lo) (a .hi) (a .s .now)) (sym (test (c .before)) ∙ not-true _ (c .if1 .taken))
+
+add-e : tie.Need-add-e
+add-e c = let h = operand c .enough in search needs
+
+mul-some-later : tie.Need-mul-some-later
+mul-some-later c = let h = operand (c .before .before .before .before) .enough in search needs
+
+part-some-later-end : tie.Need-part-some-later-end
+part-some-later-end c = let h = operand (c .before .before .before .before) .enough in search needs
+
+returns-2 : tie.Need-returns-2
+returns-2 c =
+    let u = c .before .before .some-later in
+    let p = c .before .before .before .before .before .before in
+    let o = p .before .before in
+    let a = start (o .before) .args in
+    let i = interval-is (not-refused (oneFits (a .a) (a .b) (a .m) (length (a .s .now))) (a .lo) (a .hi) (fits o)) in
+    turns (a .s .now) (someLaid (a .a) (a .b) (a .m) (a .lo) (a .hi) (a .s .now)) (fits o)
+    (loaded (λ k f. eventually (64 * k) (a .lo) (a .hi) f) (u .last .0) (operand o) (p .load .ensures) (some-turned (i .0) (i .1) (u .ensures)) .is)
+
+pub put-some-spec : {M : Type 1} → statement M
+put-some-spec =
+    tie.close
+    (tie.spec
+    (search needs) (search needs) returns add-e
+    (λ c κs. operand (c .before))
+    mul-some-later
+    (search needs) (search needs)
+    part-some-later-end
+    (search needs) (search needs)
+    returns-2)
