@@ -48,7 +48,7 @@ pub laid-bits : {b m : ℕ} (c : List ℕ) {xs ys : List ℕ} → b + m ≤ leng
 laid-bits {b} {m} c {xs} l n p = held m (bitAt c) (ap (register b m) (p .is) ∙ register-lay b m (bitAt c) xs l) (λ t k. bitAt-past c t (omega arith))
 
 -- of two columns laid in one register the last one stands there
-pub laid-over : {b m : ℕ} {f g : ℕ → Bool} {xs ys zs : List ℕ} → b + m ≤ length xs → Laid b m f xs ys → Laid b m g ys zs → Laid b m g xs zs
+laid-over : {b m : ℕ} {f g : ℕ → Bool} {xs ys zs : List ℕ} → b + m ≤ length xs → Laid b m f xs ys → Laid b m g ys zs → Laid b m g xs zs
 laid-over {b} {m} {f} {g} {xs} l p q = record { is = q .is ∙ ap (lay b m g) (p .is) ∙ lay-lay b m f xs l g }
 
 -- the register at a loaded into that at b, and turned there
