@@ -80,6 +80,3 @@ two-fit {a} {c} {b} {m} h k = one-fits h also le-leb (c + m) b (k .before)
 pub four-fit : {a c b l w m n : ℕ} → Four a c b l w m n → fourFit a c b l w m n ≡ true
 four-fit {a} {c} {b} {l} {w} {m} {n} h =
     le-leb (a + m) b (h .left) also le-leb (b + m) l (h .result) also le-leb (c + m) b (h .right) also le-leb (l + m) w (h .copy) also le-leb (w + m) n (h .work)
-
-pub interval-fits : (t : Bool) (lo hi : ℕ) → t ≡ true → badInterval lo hi ≡ false → (t && not (badInterval lo hi)) ≡ true
-interval-fits t lo hi e f = e also ap not f

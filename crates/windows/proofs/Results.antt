@@ -7,17 +7,14 @@ use native.Mathlib.Omega.{arith}
 use borrow.Author.Tests.{le-ltb, lt-ltb, ltb-false}
 use lib.Dec.{ltb}
 use lib.ListN.{length}
-use Rattle.lists.specs.Bits.{bitAt, pack, below}
+use Rattle.lists.specs.Bits.{bitAt, below}
 use Rattle.lists.specs.Choice.{pick}
 use Rattle.lists.proofs.Tests.{or-left, or-right}
 use Rattle.mltl.specs.Mltl.{eventually, opposite}
-use Rattle.interval.specs.Parts.{badInterval, parts}
-use Rattle.column.specs.Column.{register, lay, Turned, flipped}
-use Rattle.column.proofs.Registers.{register-lay, length-lay}
-use Rattle.moves.specs.Moves.{moved}
-use Rattle.windows.specs.Windows.{span, someLater, allLater, third, misplaced, untilOf, releaseOf, used, untilLater, releaseLater}
+use Rattle.interval.specs.Parts.{badInterval}
+use Rattle.column.specs.Column.{Turned, flipped}
+use Rattle.windows.specs.Windows.{span, someLater, allLater, misplaced, untilLater}
 use Rattle.windows.specs.Steps.{Three}
-use Rattle.windows.proofs.Lays.{used-length}
 
 -- ---- by a test, a list as it was or another one
 pub stays : (xs ys : List ℕ) {b : Bool} → b ≡ true → xs ≡ pick b xs ys
@@ -92,29 +89,3 @@ module _ {lo hi : ℕ} (a : lo ≤ hi) (b : hi ≤ 4095) where
       → Turned (below n (opposite (eventually (span xs) lo hi (flipped n xs)))) xs ys
   unfolding allLater
   all-turned n {xs} q = record { is = turned xs (allLater lo hi n xs) (interval-fits a b) q }
-
-  module _ {d e : ℕ} {xs : List ℕ} (h : Three d e xs) where
-    -- the first register of three, over whatever lies below
-    first-of : (f g k : ℕ → Bool) (ks : List ℕ) → register 0 (third e xs) (lay 0 (third e xs) f (lay d (third e xs) g (used e (third e xs) ks k xs))) ≡ pack (third e xs) f
-    first-of f g k ks =
-        let i = h .low in
-        let j = h .high in
-        let o = h .apart in
-        let m : ℕ = third e xs in
-        let under : length (used e m ks k xs) ≡ length xs = used-length e m ks k xs (omega arith) in
-        register-lay 0 m f (lay d m g (used e m ks k xs)) (omega (arith, under, length-lay d m g (used e m ks k xs) (omega (arith, under))))
-
-    pub until-first : {ys : List ℕ} → ys ≡ pick (badInterval lo hi || misplaced d e (length xs)) xs (untilLater d e lo hi xs)
-        → register 0 (third e xs) ys ≡ pack (third e xs) (untilOf lo hi (third e xs) (register d (third e xs) xs) (register 0 (third e xs) xs))
-    unfolding untilLater
-    until-first q =
-        let c = moved lo (register d (third e xs) xs) in
-        ap (register 0 (third e xs)) (turned xs (untilLater d e lo hi xs) (fits (a, b) h) q) ∙ first-of (untilOf lo hi (third e xs) (register d (third e xs) xs) (register 0 (third e xs) xs)) c c (parts (hi - lo))
-
-    pub release-first : (n : ℕ) {ys : List ℕ} → ys ≡ pick (badInterval lo hi || misplaced d e (length xs)) xs (releaseLater d e lo hi n xs)
-        → register 0 (third e xs) ys ≡ pack (third e xs) (releaseOf n lo hi (third e xs) (register d (third e xs) xs) (register 0 (third e xs) xs))
-    unfolding releaseLater
-    release-first n q =
-        let c = moved lo (pack (third e xs) (flipped n (register d (third e xs) xs))) in
-        ap (register 0 (third e xs)) (turned xs (releaseLater d e lo hi n xs) (fits (a, b) h) q)
-        ∙ first-of (releaseOf n lo hi (third e xs) (register d (third e xs) xs) (register 0 (third e xs) xs)) c c (parts (hi - lo))
