@@ -14,7 +14,7 @@ use Rattle.book.specs.declared.Entry.{Entry}
 use Rattle.book.specs.declared.Walk.{Walk}
 use Rattle.book.specs.declared.Reading.{Reading}
 use Rattle.book.specs.Entries.{entryOf, badLength, badHead}
-use Rattle.book.specs.Steps.{entered, added, begun}
+use Rattle.book.specs.Code.Steps.{entered, added, begun}
 use Rattle.book.specs.Reading.{refused, accepted, unless, isRuleAt, rulesIn, rules, tableOf, fault, headFault, finished, along, reading}
 use Rattle.book.specs.Keeps.{Size, Head, Linked, Along, over, on, Keeps}
 use Rattle.book.proofs.Tests.{Sized, head-clear}
@@ -54,11 +54,11 @@ module _ (s : List ℕ) where
 
   found : (f : ℕ) (before : List ℕ) (w : Walk) (r : ℕ) → At s f before w r → along s f before r .number ≡ 0 → Found before r
   unfolding along fault
-  found zero before w r a h = stop before r (ended (eqb r 0) refl) h
+  found zero before w r a h = stop before r (at-end (eqb r 0) refl) h
     where
-      ended : (b : Bool) → eqb r 0 ≡ b → r ≡ 0
-      ended true e = eqb-true r 0 e
-      ended false e = absurd (omega (arith, fuelled a (eqb-false r 0 e)))
+      at-end : (b : Bool) → eqb r 0 ≡ b → r ≡ 0
+      at-end true e = eqb-true r 0 e
+      at-end false e = absurd (omega (arith, fuelled a (eqb-false r 0 e)))
   found (suc f) before w r a h = go (eqb r 0) refl (λ b i. found f (before ++ (r ∷ [])) (added (entered w r) r (entryOf s r)) (entryOf s r .next) b i) h
     where
       rest : Reading

@@ -15,7 +15,7 @@ use Rattle.lists.specs.Sequence.{among, ticks, padded}
 use Rattle.lists.proofs.Tests.{lt-or-le}
 use Rattle.lists.proofs.Sequences.{length-ticks, getD-ticks, padded-is}
 use Rattle.mltl.specs.Mltl.{delay}
-use Rattle.table.specs.Nodes.{opOf, usesOf, noNode, noRule, nodeAt, ruleAt, formulas, delayOf, delays}
+use Rattle.table.specs.Nodes.{opOf, usesOf, noNode, noRule, nodeAt, ruleAt, formulas, delayOver, delays}
 use Rattle.table.specs.Sound.{NodeFits, RuleFits, Sound}
 use Rattle.table.specs.declared.Node.{Node}
 use Rattle.table.specs.declared.Table.{Table}
@@ -27,7 +27,7 @@ use Rattle.book.specs.Entries.{Bytes, entryOf, isNode, isRule, nameOf, u
 use Rattle.book.specs.Reading.{isNodeAt, isRuleAt, nodesIn, rulesIn, nodeOf, ruleOf, nodes, rules, tableOf, accepted, reading}
 use Rattle.book.specs.Reading as read
 use Rattle.book.specs.Keeps.{Head, Linked, Kept, Along, over, on, Keeps}
-use Rattle.book.specs.Writing.{bytes, headEntry, nodeEntry, ruleEntry, many, after, entryFor, bookOf, Yielded}
+use Rattle.book.specs.Writing.{bytes, headEntry, nodeEntry, ruleEntry, many, linkAfter, entryFor, bookOf, Yielded}
 use Rattle.book.proofs.Tests.{node-no-rule, node-uses}
 use Rattle.book.proofs.Among.{among-not, filter-in, filter-out, collect-in, collect-out}
 use Rattle.book.proofs.Stands.{nodeIn, ruleIn}
@@ -55,16 +55,16 @@ module _ (t : Table) (z : Sound t) where
   unfolding s bookOf
   size = length-bytes (ticks (entryFor t) (suc (many t))) ∙ ap (λ l. 12 * l) (length-ticks (entryFor t) (suc (many t)))
 
-  ent-head : entryOf s 0 ≡ headEntry (after t 0)
+  ent-head : entryOf s 0 ≡ headEntry (linkAfter t 0)
   ent-head = ent 0 (omega arith)
 
-  ent-node : (k : ℕ) → k < n → entryOf s (suc k) ≡ nodeEntry (nodeAt t k) (after t (suc k))
+  ent-node : (k : ℕ) → k < n → entryOf s (suc k) ≡ nodeEntry (nodeAt t k) (linkAfter t (suc k))
   unfolding n
   ent-node k h =
       let d : suc k - 1 ≡ k = omega arith in
       ent (suc k) (omega arith) ∙ rw (ne-eqb (suc k) 0 (omega arith), le-leb (suc k) (t .«node_count») (omega arith), d)
 
-  ent-rule : (j : ℕ) → j < m → entryOf s (suc (n + j)) ≡ ruleEntry (ruleAt t j) (after t (suc (n + j)))
+  ent-rule : (j : ℕ) → j < m → entryOf s (suc (n + j)) ≡ ruleEntry (ruleAt t j) (linkAfter t (suc (n + j)))
   unfolding n m
   ent-rule j h =
       let d : suc (t .«node_count» + j) - 1 - t .«node_count» ≡ j = omega arith in
@@ -96,7 +96,7 @@ module _ (t : Table) (z : Sound t) where
   used : (k : ℕ) → k < n → usesOf (opOf (nodeAt t k .kind)) ≡ usesIn (nodeAt t k .kind)
   used k h = node-uses (nodeAt t k .kind) (fits k h .node)
 
-  node-short : (k : ℕ) → k < n → delayOf (delays (take k (t .nodes))) (nodeAt t k) ≤ 4095
+  node-short : (k : ℕ) → k < n → delayOver (delays (take k (t .nodes))) (nodeAt t k) ≤ 4095
   unfolding n
   node-short k h =
       let l : k < length (t .nodes) = omega (arith, z .few-nodes, z .places) in
@@ -122,7 +122,7 @@ module _ (t : Table) (z : Sound t) where
         ap (λ (x : Entry). isNode (x .kind)) (ent-node k h)
         ∙ node-iff (nodeAt t k .kind) .1 (record { low = fits k h .known; high = fits k h .node })
 
-    node-from : nodeOf (nodesIn s (ups (suc k))) (nodeEntry (nodeAt t k) (after t (suc k))) ≡ nodeAt t k
+    node-from : nodeOf (nodesIn s (ups (suc k))) (nodeEntry (nodeAt t k) (linkAfter t (suc k))) ≡ nodeAt t k
     node-from =
         let f = fits k h in
         let u = used k h in
@@ -193,7 +193,7 @@ module _ (t : Table) (z : Sound t) where
   lists-rule (suc j) h = rw add-suc (lists-rule-more j (omega arith) (lists-rule j (omega arith)))
 
   -- ---- each record keeps the rules
-  linked-on : (k : ℕ) → k ≤ many t → Linked s (ups k ++ (k ∷ [])) (after t k)
+  linked-on : (k : ℕ) → k ≤ many t → Linked s (ups k ++ (k ∷ [])) (linkAfter t k)
   linked-on k h = go (ltb k (many t)) refl
     where
       go : (b : Bool) → ltb k (many t) ≡ b → Linked s (ups k ++ (k ∷ [])) (pick b (suc k) 0)
@@ -205,7 +205,7 @@ module _ (t : Table) (z : Sound t) where
       }
       go false e = record { inside = λ i. absurd (i refl); new = λ i. absurd (i refl) }
 
-  node-keeps : (k : ℕ) → k < n → Kept s (ups (suc k)) (suc k) (nodeEntry (nodeAt t k) (after t (suc k)))
+  node-keeps : (k : ℕ) → k < n → Kept s (ups (suc k)) (suc k) (nodeEntry (nodeAt t k) (linkAfter t (suc k)))
   unfolding n
   node-keeps k h =
       let f = fits k h in
@@ -235,7 +235,7 @@ module _ (t : Table) (z : Sound t) where
         node-room = λ v. rw (l .nodes-in, length-listed suc k) (omega (arith, z .few-nodes));
         rule-room = λ v. absurd (omega (arith, f .node));
         delay = λ v. subst (λ (d : ℕ). d ≤ 4095)
-            (sym (ap (λ (y : Node). delayOf (delays (nodes s (ups (suc k)))) y) (node-from k h l) ∙ ap (λ (y : List Node). delayOf (delays y) x) (l .nodes-are)))
+            (sym (ap (λ (y : Node). delayOver (delays (nodes s (ups (suc k)))) y) (node-from k h l) ∙ ap (λ (y : List Node). delayOver (delays y) x) (l .nodes-are)))
             (node-short k h);
         own = λ v q i j p. omega (arith, f .node);
       }
@@ -244,7 +244,7 @@ module _ (t : Table) (z : Sound t) where
       limited hi true p q = omega (arith, p refl)
       limited hi false p q = omega (arith, q refl)
 
-  rule-keeps : (j : ℕ) → j < m → Kept s (ups (suc (n + j))) (suc (n + j)) (ruleEntry (ruleAt t j) (after t (suc (n + j))))
+  rule-keeps : (j : ℕ) → j < m → Kept s (ups (suc (n + j))) (suc (n + j)) (ruleEntry (ruleAt t j) (linkAfter t (suc (n + j))))
   unfolding usesIn
   rule-keeps j h =
       let f = ruled j h in
@@ -297,12 +297,12 @@ module _ (t : Table) (z : Sound t) where
       subst (λ (x : ℕ). Kept s (ups (suc x)) (suc x) (entryOf s (suc x))) (sym i) (rule-kept (k - n) (omega arith)))
       (lt-or-le k n)
 
-  each-next : (k : ℕ) → k < many t → entryOf s (suc k) .next ≡ after t (suc k)
+  each-next : (k : ℕ) → k < many t → entryOf s (suc k) .next ≡ linkAfter t (suc k)
   each-next k h = ap (λ (e : Entry). e .next) (ent (suc k) (omega arith)) ∙ go (eqb (suc k) 0) (leb (suc k) (t .«node_count»))
     where
       go : (a b : Bool)
-          → pick a (headEntry (after t (suc k))) (pick b (nodeEntry (nodeAt t (suc k - 1)) (after t (suc k))) (ruleEntry (ruleAt t (suc k - 1 - t .«node_count»)) (after t (suc k)))) .next
-          ≡ after t (suc k)
+          → pick a (headEntry (linkAfter t (suc k))) (pick b (nodeEntry (nodeAt t (suc k - 1)) (linkAfter t (suc k))) (ruleEntry (ruleAt t (suc k - 1 - t .«node_count»)) (linkAfter t (suc k)))) .next
+          ≡ linkAfter t (suc k)
       go true b = refl
       go false true = refl
       go false false = refl
@@ -311,7 +311,7 @@ module _ (t : Table) (z : Sound t) where
   from k zero = []
   from k (suc d) = suc k ∷ from (suc k) d
 
-  goes : (d k : ℕ) → k + d ≡ many t → Along s (ups (suc k)) (after t k) (from k d)
+  goes : (d k : ℕ) → k + d ≡ many t → Along s (ups (suc k)) (linkAfter t k) (from k d)
   unfolding from
   goes zero k h = rw (le-ltb k (many t) (omega arith)) over
   goes (suc d) k h =
@@ -345,17 +345,17 @@ module _ (t : Table) (z : Sound t) where
   whole-chain : 0 ∷ from 0 (many t) ≡ ups (suc (many t))
   whole-chain = ap (λ l. l ++ from 0 (many t)) (sym first-up) ∙ all-ups (many t) 0 ∙ ap (λ (x : ℕ). ups (suc x)) (zero-add (many t))
 
-  head-linked : Linked s (0 ∷ []) (after t 0)
-  head-linked = subst (λ l. Linked s l (after t 0)) (ap (λ l. l ++ (0 ∷ [])) (listed-none (λ i. i))) (linked-on 0 (omega arith))
+  head-linked : Linked s (0 ∷ []) (linkAfter t 0)
+  head-linked = subst (λ l. Linked s l (linkAfter t 0)) (ap (λ l. l ++ (0 ∷ [])) (listed-none (λ i. i))) (linked-on 0 (omega arith))
 
-  head-along : Along s (0 ∷ []) (after t 0) (from 0 (many t))
-  head-along = subst (λ l. Along s l (after t 0) (from 0 (many t))) first-up (goes (many t) 0 (zero-add (many t)))
+  head-along : Along s (0 ∷ []) (linkAfter t 0) (from 0 (many t))
+  head-along = subst (λ l. Along s l (linkAfter t 0) (from 0 (many t))) first-up (goes (many t) 0 (zero-add (many t)))
 
   keeps : Keeps s
   unfolding n m
   keeps =
       let h : Head (entryOf s 0) = rw ent-head (record { kind = refl; arg = refl; lo = refl; hi = refl; left = refl; right = refl; tail0 = refl; tail1 = refl; tail2 = refl }) in
-      let e : entryOf s 0 .next ≡ after t 0 = ap (λ (x : Entry). x .next) ent-head in
+      let e : entryOf s 0 .next ≡ linkAfter t 0 = ap (λ (x : Entry). x .next) ent-head in
       let b : length (take m (t .rules)) ≡ t .«rule_count» = simp length-take (omega (arith, z .few-rules, z .rule-places)) in
       let r : length (rules s (0 ∷ from 0 (many t))) ≡ t .«rule_count» = ap (λ (l : List ℕ). length (rules s l)) whole-chain ∙ rw (last .rules-are) b in
       record {
@@ -399,7 +399,7 @@ small-bytes (e ∷ es) h =
     x .kind then x .arg then omega arith then omega (arith, x .lo) then omega arith then omega (arith, x .hi)
     then x .left then x .right then x .next then x .tail0 then x .tail1 then x .tail2 then small-bytes es (λ r l. h (suc r) (omega arith))
 
-after-small : (t : Table) (k : ℕ) → many t ≤ 72 → after t k < 256
+after-small : (t : Table) (k : ℕ) → many t ≤ 72 → linkAfter t k < 256
 after-small t k h = go (ltb k (many t)) refl
   where
     go : (b : Bool) → ltb k (many t) ≡ b → pick b (suc k) 0 < 256
@@ -419,11 +419,11 @@ module _ (t : Table) (z : Sound t) where
   unfolding n
   entry-small r h = go (eqb r 0) refl (leb r (t .«node_count»)) refl
     where
-      to : after t r < 256
+      to : linkAfter t r < 256
       to = after-small t r (omega (arith, z .few-nodes, z .few-rules))
 
       go : (a : Bool) → eqb r 0 ≡ a → (b : Bool) → leb r (t .«node_count») ≡ b
-          → Small (pick a (headEntry (after t r)) (pick b (nodeEntry (nodeAt t (r - 1)) (after t r)) (ruleEntry (ruleAt t (r - 1 - t .«node_count»)) (after t r))))
+          → Small (pick a (headEntry (linkAfter t r)) (pick b (nodeEntry (nodeAt t (r - 1)) (linkAfter t r)) (ruleEntry (ruleAt t (r - 1 - t .«node_count»)) (linkAfter t r))))
       go true e b f = record { kind = omega arith; arg = omega arith; lo = omega arith; hi = omega arith; left = omega arith; right = omega arith; next = to; tail0 = omega arith; tail1 = omega arith; tail2 = omega arith }
       go false e true f =
           let q : r - 1 < t .«node_count» = omega (arith, eqb-false r 0 e, leb-true r (t .«node_count») f) in

@@ -14,10 +14,10 @@ use Rattle.lists.specs.Sequence.{among}
 use Rattle.limits.specs.Limits.{maxName}
 use Rattle.book.specs.declared.Entry.{Entry}
 use Rattle.book.specs.declared.Walk.{Walk}
-use Rattle.book.specs.declared.Step.{Step}
+use Rattle.book.specs.declared.Tried.{Tried}
 use Rattle.book.specs.declared.Reading.{Reading}
 use Rattle.book.specs.Entries.{entryOf, isNode, nameOf}
-use Rattle.book.specs.Steps.{seenAt, entered, nodeAdded, ruleAdded, added, walkFault, stepped, begun, ended}
+use Rattle.book.specs.Code.Steps.{seenAt, entered, nodeAdded, ruleAdded, added, walkFault, stepped, begun, walkEnded}
 use Rattle.book.specs.Reading.{refused, rows, fault, headFault, finished, along, reading}
 use Rattle.book.specs.Keeps.{Linked}
 use Rattle.lists.proofs.Rows.{no-row}
@@ -131,7 +131,7 @@ unfolding reading
 head-stops s p q i = rw (i, p, ne-eqb (headFault s) 0 (λ z. q (p ∙ z)))
 
 module _ {s : List ℕ} {w : Walk} {r : ℕ} (g : Going s w r) where
-  pub ends : {x : Reading} → r ≡ 0 → x ≡ ended w → x ≡ reading s
+  pub ends : {x : Reading} → r ≡ 0 → x ≡ walkEnded w → x ≡ reading s
   unfolding along
   ends z i = i ∙ ended-same (g .at .stands) ∙ go (g .fuel) ∙ g .same
     where
@@ -140,9 +140,9 @@ module _ {s : List ℕ} {w : Walk} {r : ℕ} (g : Going s w r) where
       go (suc f) = rw (eq-eqb r 0 z)
 
   -- the record r is tried; its name is small enough
-  module _ (z : ¬ (r ≡ 0)) {v : Walk} {e : Entry} {x : Step} (i : v ≡ entered w r) (j : e ≡ entryOf s r) (b : nameOf e ≤ maxName) (k : x ≡ stepped (length s) v r e) where
+  module _ (z : ¬ (r ≡ 0)) {v : Walk} {e : Entry} {x : Tried} (i : v ≡ entered w r) (j : e ≡ entryOf s r) (b : nameOf e ≤ maxName) (k : x ≡ stepped (length s) v r e) where
     found : x .number ≡ fault s (g .before) r
-    found = ap (λ (y : Step). y .number) k ∙ rw (i, j) (fault-is (g .at) z (subst (λ (y : Entry). nameOf y ≤ maxName) j b))
+    found = ap (λ (y : Tried). y .number) k ∙ rw (i, j) (fault-is (g .at) z (subst (λ (y : Entry). nameOf y ≤ maxName) j b))
 
     pub stops : {y : Reading} → ¬ (x .number ≡ 0) → y ≡ refused (x .number) r → y ≡ reading s
     unfolding along
@@ -155,10 +155,10 @@ module _ {s : List ℕ} {w : Walk} {r : ℕ} (g : Going s w r) where
     module _ (q : x .number ≡ 0) where
       next-state : x .walk ≡ added (entered w r) r (entryOf s r)
       next-state =
-          let h : walkFault (length s) v e ≡ 0 = sym (ap (λ (y : Step). y .number) k) ∙ q in
+          let h : walkFault (length s) v e ≡ 0 = sym (ap (λ (y : Tried). y .number) k) ∙ q in
           let a : stepped (length s) v r e .walk ≡ added v r e = rw h in
           let b : added v r e ≡ added (entered w r) r (entryOf s r) = rw (i, j) in
-          ap (λ (y : Step). y .walk) k ∙ a ∙ b
+          ap (λ (y : Tried). y .walk) k ∙ a ∙ b
 
       pub less : unseen (x .walk .seen) < unseen (w .seen)
       less = rw next-state (omega (arith, one-less (g .at) z))

@@ -11,7 +11,7 @@ use lib.ListN.{length, getD}
 use Rattle.lists.specs.Choice.{_if_, first}
 use Rattle.lists.specs.Sequence.{among}
 use Rattle.lists.proofs.Tests.{or-left, or-right, and-right, true-left, true-right, or-other, _also_}
-use Rattle.table.specs.Nodes.{delayOf, delays}
+use Rattle.table.specs.Nodes.{delayOver, delays}
 use Rattle.book.specs.declared.Entry.{Entry}
 use Rattle.interval.specs.Parts.{badInterval}
 use Rattle.book.specs.Entries.{entryOf, usesIn, isNode, isRule, nameOf, formed, badForm, badArg}
@@ -119,7 +119,7 @@ module _ (s before : List ℕ) where
           node-room = λ u. leb-false 64 (length ps) (and-right (isNode (e .kind)) _ (or-left _ _ count) (node u));
           rule-room = λ u.
               leb-false 8 (length (rulesIn s before)) (and-right (isRule (e .kind)) _ (or-right (isNode (e .kind) && leb 64 (length ps)) _ count) (rule u));
-          delay = λ u. ltb-false 4095 (delayOf (delays (nodes s before)) (nodeOf ps e)) (and-right (isNode (e .kind)) _ (no 6) (node u));
+          delay = λ u. ltb-false 4095 (delayOver (delays (nodes s before)) (nodeOf ps e)) (and-right (isNode (e .kind)) _ (no 6) (node u));
           own = λ u q m k p.
               none-named (λ x. nameOf (entryOf s x)) (nameOf e) (rulesIn s before) (and-right (isRule (e .kind)) _ (no 7) (rule u)) q (rule-among q m k) p;
         }
@@ -139,7 +139,7 @@ module _ (s before : List ℕ) where
         neither (not-and (isNode (e .kind)) (λ u. lt-leb 64 (length ps) (k .node-room (node-iff (e .kind) .0 u))))
         (not-and (isRule (e .kind)) (λ u. lt-leb 8 (length (rulesIn s before)) (k .rule-room (eqb-true (e .kind) 11 u)))) in
         let delay : delayFault s before e ≡ false =
-        not-and (isNode (e .kind)) (λ u. le-ltb 4095 (delayOf (delays (nodes s before)) (nodeOf ps e)) (k .delay (node-iff (e .kind) .0 u))) in
+        not-and (isNode (e .kind)) (λ u. le-ltb 4095 (delayOver (delays (nodes s before)) (nodeOf ps e)) (k .delay (node-iff (e .kind) .0 u))) in
         let name : nameFault s before e ≡ false =
         not-and (isRule (e .kind)) (λ u. named-none (λ x. nameOf (entryOf s x)) (nameOf e) (rulesIn s before) λ q m.
         let a = among-rule q m in

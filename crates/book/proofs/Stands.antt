@@ -10,10 +10,10 @@ use lib.Dec.{ltb, leb, eqb}
 use lib.ListN.{length, getD, set, replicate, length-set}
 use Rattle.lists.specs.Choice.{Row, pick, _if_, first}
 use Rattle.lists.specs.Sequence.{among}
-use Rattle.lists.proofs.Rows.{row-more, no-row}
+use Rattle.lists.proofs.Rows.{row-more, no-row, row-same, row-none}
 use Rattle.lists.proofs.Tests.{or-left, or-right}
 use Rattle.lists.proofs.Sequences.{length-snoc, getD-free}
-use Rattle.table.specs.Nodes.{noNode, opOf, usesOf, delayOf, delays}
+use Rattle.table.specs.Nodes.{noNode, opOf, usesOf, delayOver, delays}
 use Rattle.table.specs.declared.Node.{Node}
 use Rattle.table.specs.declared.Rule.{Rule}
 use Rattle.table.specs.declared.Table.{Table}
@@ -25,10 +25,10 @@ use Rattle.book.specs.declared.Walk.{Walk}
 use Rattle.limits.specs.Limits.{maxName}
 use Rattle.interval.specs.Parts.{badInterval}
 use Rattle.book.specs.Entries.{entryOf, usesIn, nameOf, formed, badForm, badArg, badLength, badHead}
-use Rattle.book.specs.Steps.{seenAt, entered, noPlace, placeBy, nodeBy, ruleBy, nodeAdded, ruleAdded, added, badLink, builderRows, walkFault, begun, ended}
+use Rattle.book.specs.Code.Steps.{seenAt, entered, noPlace, placeBy, nodeBy, ruleBy, nodeAdded, ruleAdded, added, badLink, builderRows, walkFault, begun, walkEnded}
 use Rattle.book.specs.Reading.{index, place, isNodeAt, isRuleAt, nodesIn, rulesIn, nodeOf, ruleOf, nodes, rules, linkFault, operandFault, countFault, delayFault, nameFault, rows, fault, headFault, finished}
 use Rattle.book.specs.Keeps.{Kept}
-use Rattle.book.proofs.Tests.{other-kind, node-no-rule, node-uses, rule-uses, row-same, row-none}
+use Rattle.book.proofs.Tests.{other-kind, node-no-rule, node-uses, rule-uses}
 use Rattle.book.proofs.Among.{eqb-suc, among-snoc, among-filter, filter-in, filter-out, collect-in, collect-out, collect-map, collect-length, index-old, index-new, index-lt}
 use Rattle.book.proofs.Kept.{formed-is, node-iff, kept}
 
@@ -180,8 +180,8 @@ module _ {s before : List ℕ} {w : Walk} (t : Stands s before w) (r : ℕ) (b :
     delay-same : operandFault ps e ≡ false → tooLong (w .table) (nodeBy (entered w r) e) ≡ delayFault s before e
     delay-same h =
         ap (λ (d : ℕ). ltb 4095 d)
-        (ap (λ (x : Node). delayOf (delays (w .table .nodes)) x) (node-same h)
-        ∙ ap (λ (x : Table). delayOf (delays (x .nodes)) (nodeIn s before r)) (t .table-is)
+        (ap (λ (x : Node). delayOver (delays (w .table .nodes)) x) (node-same h)
+        ∙ ap (λ (x : Table). delayOver (delays (x .nodes)) (nodeIn s before r)) (t .table-is)
         ∙ delay-held (nodes s before) (rules s before) (nodeIn s before r))
         ∙ rw n
 
@@ -247,8 +247,8 @@ module _ {s before : List ℕ} {w : Walk} (t : Stands s before w) (r : ℕ) (b :
 
   -- ---- what is added
   module _ (c : fault s before r ≡ 0) where
-    abbrev after : List ℕ
-    after = before ++ (r ∷ [])
+    abbrev passed : List ℕ
+    passed = before ++ (r ∷ [])
 
     keeps : Kept s before r e
     unfolding fault
@@ -263,19 +263,19 @@ module _ {s before : List ℕ} {w : Walk} (t : Stands s before w) (r : ℕ) (b :
     operands = no-row (rows s before r e) refl c 4
 
     module _ (n : isNodeAt s r ≡ true) where
-      nodes-in : nodesIn s after ≡ ps ++ (r ∷ [])
+      nodes-in : nodesIn s passed ≡ ps ++ (r ∷ [])
       nodes-in = filter-in (isNodeAt s) before r n
 
-      nodes-more : nodes s after ≡ nodes s before ++ (nodeIn s before r ∷ [])
+      nodes-more : nodes s passed ≡ nodes s before ++ (nodeIn s before r ∷ [])
       nodes-more = collect-in (isNodeAt s) (nodeIn s) before r n
 
-      rules-kept : rules s after ≡ rules s before
+      rules-kept : rules s passed ≡ rules s before
       rules-kept = collect-out (isRuleAt s) (ruleIn s) before r (no-rule n)
 
       room : length (nodes s before) < 64
       room = omega (arith, keeps .node-room (node-iff (e .kind) .0 n), collect-length (isNodeAt s) (nodeIn s) [] before)
 
-      node-seen : (k : ℕ) → seenAt (nodeAdded (entered w r) r (entryOf s r)) k ≡ seenOf s after k
+      node-seen : (k : ℕ) → seenAt (nodeAdded (entered w r) r (entryOf s r)) k ≡ seenOf s passed k
       node-seen k =
           stored (set (w .seen) r 1) r (2 + w .table .«node_count») k (simp length-set (omega (arith, t .sized)))
           ∙ rw (in-entered k, nodes-in, among-snoc k ps r, among-snoc k before r) (go (eqb k r) refl)
@@ -289,14 +289,14 @@ module _ {s before : List ℕ} {w : Walk} (t : Stands s before w) (r : ℕ) (b :
           go true i = rw (or-true (among k ps), eqb-true k r i, index-new ps r new-node, node-count)
           go false i = rw (or-false (among k ps), or-false (among k before)) (kept (among k ps) refl)
 
-      node-table : withNode (w .table) (nodeBy (entered w r) e) ≡ tableBefore s after
+      node-table : withNode (w .table) (nodeBy (entered w r) e) ≡ tableBefore s passed
       node-table =
           ap (λ (x : Table). withNode x (nodeBy (entered w r) e)) (t .table-is)
           ∙ ap (λ (x : Node). withNode (tableBefore s before) x) (node-same n operands)
           ∙ node-held (nodes s before) (rules s before) (nodeIn s before r) room
           ∙ rw (nodes-more, rules-kept)
 
-      pub node-stands : Stands s after (nodeAdded (entered w r) r e)
+      pub node-stands : Stands s passed (nodeAdded (entered w r) r e)
       node-stands = record {
         seen = node-seen;
         sized = simp length-set (t .sized);
@@ -305,13 +305,13 @@ module _ {s before : List ℕ} {w : Walk} (t : Stands s before w) (r : ℕ) (b :
       }
 
     module _ (n : isNodeAt s r ≡ false) where
-      nodes-kept-in : nodesIn s after ≡ ps
+      nodes-kept-in : nodesIn s passed ≡ ps
       nodes-kept-in = filter-out (isNodeAt s) before r n
 
-      nodes-kept : nodes s after ≡ nodes s before
+      nodes-kept : nodes s passed ≡ nodes s before
       nodes-kept = collect-out (isNodeAt s) (nodeIn s) before r n
 
-      rules-more : rules s after ≡ rules s before ++ (ruleIn s before r ∷ [])
+      rules-more : rules s passed ≡ rules s before ++ (ruleIn s before r ∷ [])
       rules-more = collect-in (isRuleAt s) (ruleIn s) before r (rule-at form n)
 
       rule-room : length (rules s before) < 8
@@ -322,21 +322,21 @@ module _ {s before : List ℕ} {w : Walk} (t : Stands s before w) (r : ℕ) (b :
           let u : (usesIn (e .kind) .left && not (among (e .left) ps)) ≡ false = or-left _ _ operands in
           rw (operand-in true (e .left) (rw (rule-uses (e .kind) (eleven form n)) at u))
 
-      rule-seen : (k : ℕ) → seenAt (entered w r) k ≡ seenOf s after k
+      rule-seen : (k : ℕ) → seenAt (entered w r) k ≡ seenOf s passed k
       rule-seen k = rw (in-entered k, nodes-kept-in, among-snoc k before r) (go (eqb k r) refl)
         where
           go : (x : Bool) → eqb k r ≡ x → pick x 1 (seenOf s before k) ≡ pick (among k ps) (2 + index ps k) (pick (among k before || x) 1 0)
           go true i = let m : among k ps ≡ false = rw (eqb-true k r i) new-node in rw (m, or-true (among k before))
           go false i = rw (or-false (among k before))
 
-      rule-table : withRule (w .table) (ruleBy (entered w r) e) ≡ tableBefore s after
+      rule-table : withRule (w .table) (ruleBy (entered w r) e) ≡ tableBefore s passed
       rule-table =
           ap (λ (x : Table). withRule x (ruleBy (entered w r) e)) (t .table-is)
           ∙ ap (λ (x : Rule). withRule (tableBefore s before) x) rule-same
           ∙ rule-held (nodes s before) (rules s before) (ruleIn s before r) rule-room
           ∙ rw (nodes-kept, rules-more)
 
-      pub rule-stands : Stands s after (ruleAdded (entered w r) e)
+      pub rule-stands : Stands s passed (ruleAdded (entered w r) e)
       rule-stands = record {
         seen = rule-seen;
         sized = simp length-set (t .sized);
@@ -344,15 +344,15 @@ module _ {s before : List ℕ} {w : Walk} (t : Stands s before w) (r : ℕ) (b :
         few = rw nodes-kept (t .few);
       }
 
-    pub added-stands : Stands s after (added (entered w r) r e)
+    pub added-stands : Stands s passed (added (entered w r) r e)
     added-stands = go (isNodeAt s r) refl
       where
-        go : (x : Bool) → isNodeAt s r ≡ x → Stands s after (pick x (nodeAdded (entered w r) r e) (ruleAdded (entered w r) e))
+        go : (x : Bool) → isNodeAt s r ≡ x → Stands s passed (pick x (nodeAdded (entered w r) r e) (ruleAdded (entered w r) e))
         go true n = node-stands n
         go false n = rule-stands n
 
 -- ---- the two readings
-pub ended-same : {s before : List ℕ} {w : Walk} → Stands s before w → ended w ≡ finished s before
+pub ended-same : {s before : List ℕ} {w : Walk} → Stands s before w → walkEnded w ≡ finished s before
 ended-same {s} {before} {w} t = rw (t .table-is)
 
 -- ---- the head

@@ -7,7 +7,6 @@ use mathlib.Core.List.{List, [], _∷_}
 use borrow.Author.Tests.{eqb-true, leb-true, leb-false, le-leb, eq-eqb, ne-eqb, not-false}
 use lib.Dec.{ltb, leb, eqb}
 use lib.ListN.{length}
-use Rattle.lists.specs.Choice.{pick}
 use Rattle.lists.proofs.Tests.{true-left, true-right, and-right}
 use Rattle.lists.proofs.Rows.{no-row}
 use Rattle.table.specs.Nodes.{opOf, uses, usesOf}
@@ -15,7 +14,7 @@ use Rattle.book.specs.declared.Entry.{Entry}
 use Rattle.book.specs.declared.Walk.{Walk}
 use Rattle.book.specs.Entries.{entryOf, usesIn, isNode, isRule, badLength, badHead}
 use Rattle.book.specs.Reading.{headRows, linkFault, headFault}
-use Rattle.book.specs.Steps.{seenAt, badLink}
+use Rattle.book.specs.Code.Steps.{seenAt, badLink}
 
 -- ---- tests from their parts
 pub neither : {a b : Bool} → a ≡ false → b ≡ false → (a || b) ≡ false
@@ -83,13 +82,3 @@ rule-uses k h = rw (eq-eqb k 11 h)
 pub link-is : (n : ℕ) (w : Walk) (e : Entry) {v : ℕ} → v ≡ seenAt w (e .next)
     → (not (eqb (e .next) 0) && (leb n (12 * e .next) || ltb 0 v)) ≡ badLink n w e
 link-is n w e p = rw p
-
--- ---- rows
--- the same test and number, and the rest where the test fails
-pub row-same : (n : ℕ) {a : Bool} (b : Bool) {g h : ℕ} → a ≡ b → (b ≡ false → g ≡ h) → pick a n g ≡ pick b n h
-row-same n true p q = rw p
-row-same n false p q = rw p (q refl)
-
--- a row that never fits
-pub row-none : (n : ℕ) (b : Bool) {g h : ℕ} → b ≡ false → g ≡ h → g ≡ pick b n h
-row-none n b p q = rw p q

@@ -6,7 +6,7 @@ use mathlib.Core.Bool.{true, false}
 use mathlib.Core.List.{List, [], _∷_, _++_, List·Memᴰ}
 use lib.ListN.{length}
 use Rattle.limits.specs.Limits.{maxNodes, maxRules, maxSignal, maxInterval, maxDelay, recordBytes, maxRecords}
-use Rattle.table.specs.Nodes.{delayOf, delays}
+use Rattle.table.specs.Nodes.{delayOver, delays}
 use Rattle.book.specs.declared.Entry.{Entry}
 use Rattle.book.specs.Entries.{entryOf, usesIn, nameOf}
 use Rattle.book.specs.Reading.{nodesIn, rulesIn, nodeOf, nodes}
@@ -75,7 +75,7 @@ pub record Kept (s before : List ℕ) (r : ℕ) (e : Entry) : Type 0 where
   pub node-room : NodeKind (e .kind) → length (nodesIn s before) < maxNodes
   pub rule-room : e .kind ≡ 11 → length (rulesIn s before) < maxRules
   -- 9
-  pub delay : NodeKind (e .kind) → delayOf (delays (nodes s before)) (nodeOf (nodesIn s before) e) ≤ maxDelay
+  pub delay : NodeKind (e .kind) → delayOver (delays (nodes s before)) (nodeOf (nodesIn s before) e) ≤ maxDelay
   -- 10: no earlier rule has the name
   pub own : e .kind ≡ 11 → (q : ℕ) → List·Memᴰ q before → entryOf s q .kind ≡ 11 → ¬ (nameOf (entryOf s q) ≡ nameOf e)
 

@@ -8,5 +8,5 @@ pub mod Keeps
 pub mod Chain
 -- the book of a table
 pub mod Writing
--- the steps of the code
-pub mod Steps
+-- what only the steps of the code are about: no other crate names it
+pub mod Code

@@ -10,7 +10,7 @@ use Rattle.refusals.specs.Numbers.{LENGTH, HEAD, LINK, FORM, ARGUMENT, INTERVAL
 use Rattle.lists.specs.Choice.{Row, pick, _if_, first}
 use Rattle.lists.specs.Sequence.{among, padded}
 use Rattle.interval.specs.Parts.{badInterval}
-use Rattle.table.specs.Nodes.{noNode, noRule, noTable, delayOf, delays}
+use Rattle.table.specs.Nodes.{noNode, noRule, noTable, delayOver, delays}
 use Rattle.table.specs.declared.Node.{Node}
 use Rattle.table.specs.declared.Rule.{Rule}
 use Rattle.table.specs.declared.Table.{Table}
@@ -95,7 +95,7 @@ countFault s before e =
 
 -- a node's delay is above the longest
 abbrev pub delayFault : List ℕ → List ℕ → Entry → Bool
-delayFault s before e = isNode (e .kind) && ltb maxDelay (delayOf (delays (nodes s before)) (nodeOf (nodesIn s before) e))
+delayFault s before e = isNode (e .kind) && ltb maxDelay (delayOver (delays (nodes s before)) (nodeOf (nodesIn s before) e))
 
 -- an earlier rule has the name
 abbrev pub nameFault : List ℕ → List ℕ → Entry → Bool

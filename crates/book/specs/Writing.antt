@@ -48,14 +48,14 @@ abbrev pub many : Table → ℕ
 many t = t .«node_count» + t .«rule_count»
 
 -- the record after k, and 0 after the last
-abbrev pub after : Table → ℕ → ℕ
-after t k = pick (ltb k (many t)) (suc k) 0
+abbrev pub linkAfter : Table → ℕ → ℕ
+linkAfter t k = pick (ltb k (many t)) (suc k) 0
 
 abbrev pub entryFor : Table → ℕ → Entry
 entryFor t k =
-    pick (eqb k 0) (headEntry (after t k))
-    (pick (leb k (t .«node_count»)) (nodeEntry (nodeAt t (k - 1)) (after t k))
-    (ruleEntry (ruleAt t (k - 1 - t .«node_count»)) (after t k)))
+    pick (eqb k 0) (headEntry (linkAfter t k))
+    (pick (leb k (t .«node_count»)) (nodeEntry (nodeAt t (k - 1)) (linkAfter t k))
+    (ruleEntry (ruleAt t (k - 1 - t .«node_count»)) (linkAfter t k)))
 
 unfoldable pub bookOf : Table → List ℕ
 bookOf t = bytes (ticks (entryFor t) (suc (many t)))

@@ -1,19 +1,17 @@
 // Reads a book, document 01's term for a list of rules in records of 12 bytes, into a table.
-use limits::BOOK_BYTES;
 use limits::RECORD_BYTES;
 use table::Node;
 use table::Rule;
 use table::Table;
-use table::Uses;
 ghost use mathlib.Core.Path.{_≡_};
-ghost use Prim.Native.Nat.{_+_, _*_, _-_, _≤_, _<_};
-ghost use mathlib.Core.Bool.{true, false};
-ghost use lib.ListN.{length, getD};
-ghost use Rattle.limits.specs.Limits.{recordBytes};
+ghost use Prim.Native.Nat.{_+_, _*_, _-_, _<_};
+ghost use mathlib.Core.Bool.{true};
+ghost use lib.ListN.{getD};
 ghost use Rattle.lists.specs.Choice.{first};
-ghost use Rattle.book.specs.Entries.{joined, joinedAt, entryFrom, entryOf, usesIn, isNode, nameOf, formedBy, badForm, badLength, badHead};
 ghost use Rattle.book.specs.Reading.{refused, headFault, reading};
-ghost use Rattle.book.specs.Steps.{entered, placeBy, nodeBy, ruleBy, badLink, recordRows, nodeStep, ruleStep, stepped, begun, ended};
+ghost use Rattle.book.specs.Code.Steps.{entered, placeBy, nodeBy, ruleBy, badLink, recordRows, nodeStep, ruleStep, stepped, begun, walkEnded};
+
+mod entries;
 
 // What a record of the book holds: its kind and the record that it links to, then the fields that its kind may use, where an operand
 // is the number of a record, and a tail that is to be zero.
@@ -38,7 +36,7 @@ struct Walk {
 }
 
 // A record tried where the walk stands: the number of a refusal and the walk as it came, or 0 and the walk with the record added.
-struct Step {
+struct Tried {
     number: u8,
     walk: Walk,
 }
@@ -48,94 +46,6 @@ pub struct Reading {
     pub number: u8,
     pub record: u8,
     pub table: Table,
-}
-
-fn join(low: u8, high: u8) -> u16
-    ensures { λ r. ⌜ r ≡ joined low high ⌝ }
-{
-    low as u16 + 256 * (high as u16)
-}
-
-fn joined_at(s: &[u8], at: usize) -> u16
-    requires { ⌜ at + 2 ≤ length (now s) ⌝ }
-    ensures { λ r. ⌜ r ≡ joinedAt (now (s .entry)) at ⌝ }
-{
-    join(s[at], s[at + 1])
-}
-
-fn entry_from(s: &[u8], at: usize) -> Entry
-    requires { ⌜ at + recordBytes ≤ length (now s) ⌝ }
-    ensures { λ r. ⌜ r ≡ entryFrom (now (s .entry)) at ⌝ }
-{
-    let lo = joined_at(s, at + 2);
-    let hi = joined_at(s, at + 4);
-    Entry {
-        kind: s[at],
-        arg: s[at + 1],
-        lo,
-        hi,
-        left: s[at + 6],
-        right: s[at + 7],
-        next: s[at + 8],
-        tail0: s[at + 9],
-        tail1: s[at + 10],
-        tail2: s[at + 11],
-    }
-}
-
-fn entry_of(s: &[u8], r: u8) -> Entry
-    requires { ⌜ recordBytes * r + recordBytes ≤ length (now s) ⌝ }
-    ensures { λ e. ⌜ e ≡ entryOf (now (s .entry)) r ⌝ }
-{
-    entry_from(s, RECORD_BYTES * (r as usize))
-}
-
-// The fields that a kind uses.
-fn uses_in(kind: u8) -> Uses
-    ensures { λ r. ⌜ r ≡ usesIn kind ⌝ }
-{
-    if kind == 11 {
-        return Uses {
-            arg: true,
-            interval: false,
-            left: true,
-            right: false,
-        };
-    }
-    table::uses_of(kind)
-}
-
-fn is_node(k: u8) -> bool
-    ensures { λ b. ⌜ b ≡ isNode k ⌝ }
-{
-    (1 <= k) & (k <= 10)
-}
-
-fn formed_by(used: Uses, e: Entry) -> bool
-    ensures { λ b. ⌜ b ≡ formedBy used e ⌝ }
-{
-    (1 <= e.kind)
-        & (e.kind <= 11)
-        & (used.arg | (e.arg == 0))
-        & (used.interval | ((e.lo == 0) & (e.hi == 0)))
-        & (used.left | (e.left == 0))
-        & (used.right | (e.right == 0))
-        & (e.tail0 == 0)
-        & (e.tail1 == 0)
-        & (e.tail2 == 0)
-}
-
-fn bad_form(e: Entry) -> bool
-    ensures { λ b. ⌜ b ≡ badForm e ⌝ }
-{
-    !formed_by(uses_in(e.kind), e)
-}
-
-// The name of a rule's record.
-fn name_of(e: Entry) -> u16
-    ensures { λ n. ⌜ n ≡ nameOf e ⌝ }
-{
-    e.arg as u16
 }
 
 fn seen_at(w: Walk, r: u8) -> u8
@@ -182,7 +92,7 @@ fn node_by(w: Walk, e: Entry) -> Node
 fn rule_by(w: Walk, e: Entry) -> Rule
     ensures { λ r. ⌜ r ≡ ruleBy w e ⌝ }
 {
-    let name = name_of(e);
+    let name = entries::name_of(e);
     let watched = place_of(w, true, e.left);
     Rule { name, watched }
 }
@@ -191,7 +101,7 @@ fn rule_by(w: Walk, e: Entry) -> Rule
 fn record_fault(n: usize, w: Walk, e: Entry) -> u8
     ensures { λ r. ⌜ r ≡ first (recordRows n w e) ⌝ }
 {
-    let form = lists::either(bad_form(e), refusals::FORM, 0);
+    let form = lists::either(entries::bad_form(e), refusals::FORM, 0);
     lists::either(bad_link(n, w, e), refusals::LINK, form)
 }
 
@@ -205,13 +115,13 @@ fn enter(w: Walk, r: u8) -> Walk
     Walk { table, seen }
 }
 
-fn add_node(w: Walk, r: u8, e: Entry) -> Step
+fn add_node(w: Walk, r: u8, e: Entry) -> Tried
     ensures { λ x. ⌜ x ≡ nodeStep w r e ⌝ }
 {
     let at = w.table.node_count;
     let a = builder::add_node(w.table, node_by(w, e));
     if a.number != 0 {
-        return Step {
+        return Tried {
             number: a.number,
             walk: w,
         };
@@ -221,15 +131,15 @@ fn add_node(w: Walk, r: u8, e: Entry) -> Step
     let mut seen = w.seen;
     seen[k] = (2 + at) as u8;
     let walk = Walk { table, seen };
-    Step { number: 0, walk }
+    Tried { number: 0, walk }
 }
 
-fn add_rule(w: Walk, e: Entry) -> Step
+fn add_rule(w: Walk, e: Entry) -> Tried
     ensures { λ x. ⌜ x ≡ ruleStep w e ⌝ }
 {
     let a = builder::add_rule(w.table, rule_by(w, e));
     if a.number != 0 {
-        return Step {
+        return Tried {
             number: a.number,
             walk: w,
         };
@@ -237,18 +147,18 @@ fn add_rule(w: Walk, e: Entry) -> Step
     let table = a.table;
     let seen = w.seen;
     let walk = Walk { table, seen };
-    Step { number: 0, walk }
+    Tried { number: 0, walk }
 }
 
 // The first row of document 01's table that fits a record, or 0 and the walk with the record added.
-fn try_record(n: usize, w: Walk, r: u8, e: Entry) -> Step
+fn try_record(n: usize, w: Walk, r: u8, e: Entry) -> Tried
     ensures { λ x. ⌜ x ≡ stepped n w r e ⌝ }
 {
     let number = record_fault(n, w, e);
     if number != 0 {
-        return Step { number, walk: w };
+        return Tried { number, walk: w };
     }
-    if is_node(e.kind) {
+    if entries::is_node(e.kind) {
         add_node(w, r, e)
     } else {
         add_rule(w, e)
@@ -276,7 +186,7 @@ fn refuse(number: u8, at: u8) -> Reading
 }
 
 fn end(w: Walk) -> Reading
-    ensures { λ r. ⌜ r ≡ ended w ⌝ }
+    ensures { λ r. ⌜ r ≡ walkEnded w ⌝ }
 {
     let table = w.table;
     if table.rule_count == 0 {
@@ -290,35 +200,15 @@ fn end(w: Walk) -> Reading
     }
 }
 
-fn bad_length(n: usize) -> bool
-    ensures { λ b. ⌜ b ≡ badLength n ⌝ }
-{
-    !((n % RECORD_BYTES == 0) & (RECORD_BYTES <= n) & (n <= BOOK_BYTES))
-}
-
-fn bad_head(e: Entry) -> bool
-    ensures { λ b. ⌜ b ≡ badHead e ⌝ }
-{
-    !((e.kind == 0)
-        & (e.arg == 0)
-        & (e.lo == 0)
-        & (e.hi == 0)
-        & (e.left == 0)
-        & (e.right == 0)
-        & (e.tail0 == 0)
-        & (e.tail1 == 0)
-        & (e.tail2 == 0))
-}
-
 fn head_fault(s: &[u8]) -> u8
     ensures { λ r. ⌜ r ≡ headFault (now (s .entry)) ⌝ }
 {
-    if bad_length(s.len()) {
+    if entries::bad_length(s.len()) {
         return refusals::LENGTH;
     }
-    let e = entry_of(s, 0);
+    let e = entries::entry_of(s, 0);
     let link = lists::either(bad_link(s.len(), begin(), e), refusals::LINK, 0);
-    lists::either(bad_head(e), refusals::HEAD, link)
+    lists::either(entries::bad_head(e), refusals::HEAD, link)
 }
 
 // The table of a book that is accepted; or the number of the refusal, the record, and no table.
@@ -329,12 +219,12 @@ pub fn read(book: &[u8]) -> Reading
     if f != 0 {
         return refuse(f, 0);
     }
-    let head = entry_of(book, 0);
+    let head = entries::entry_of(book, 0);
     let mut w = begin();
     let mut at = head.next;
     while at != 0 {
         let v = enter(w, at);
-        let e = entry_of(book, at);
+        let e = entries::entry_of(book, at);
         let x = try_record(book.len(), v, at, e);
         if x.number != 0 {
             return refuse(x.number, at);

@@ -7,7 +7,7 @@ use borrow.Author.Tests.{ltb-true, ltb-false, lt-ltb, le-ltb, leb-false, ne-eqb}
 use lib.Dec.{ltb}
 use Rattle.lists.specs.Choice.{first}
 use Rattle.lists.proofs.Rows.{no-row}
-use Rattle.table.specs.Nodes.{cap, delayOf, delays}
+use Rattle.table.specs.Nodes.{cap, delayOver, delays}
 use Rattle.table.specs.declared.Node.{Node}
 use Rattle.table.specs.declared.Rule.{Rule}
 use Rattle.table.specs.declared.Table.{Table}
@@ -22,7 +22,7 @@ long-cap d = go (ltb 4095 d) refl
     go true e = let h : 4095 < d = ltb-true 4095 d e in lt-ltb 4095 (cap d) (omega arith)
     go false e = let h : d ≤ 4095 = ltb-false 4095 d e in le-ltb 4095 (cap d) (omega arith)
 
-pub long-is : (t : Table) (n : Node) {d : ℕ} → d ≡ cap (delayOf (delays (t .nodes)) n) → ltb 4095 d ≡ tooLong t n
+pub long-is : (t : Table) (n : Node) {d : ℕ} → d ≡ cap (delayOver (delays (t .nodes)) n) → ltb 4095 d ≡ tooLong t n
 long-is t n e = rw (e, long-cap)
 
 -- ---- the answer by its number, which is f

@@ -10,7 +10,7 @@ use lib.ListN.{length, replicate}
 use Rattle.lists.specs.Choice.{first}
 use Rattle.lists.specs.Sequence.{among, every, padded, chain}
 use Rattle.lists.proofs.Sequences.{length-snoc, getD-padded, set-padded, chain-append}
-use Rattle.table.specs.Nodes.{noNode, noRule, delayOf, delays}
+use Rattle.table.specs.Nodes.{noNode, noRule, delayOver, delays}
 use Rattle.table.specs.Sound.{differs}
 use Rattle.table.specs.declared.Node.{Node}
 use Rattle.table.specs.declared.Rule.{Rule}
@@ -20,17 +20,17 @@ use Rattle.builder.specs.Adding.{addNodeRows, nameUsed, addRuleRows, wit
 use Rattle.builder.specs.Built.{tableHolding}
 
 -- ---- free places have no delay, and change none
-chain-free : (made : List ℕ) (m : ℕ) → chain delayOf made (replicate m noNode) ≡ made ++ replicate m 0
+chain-free : (made : List ℕ) (m : ℕ) → chain delayOver made (replicate m noNode) ≡ made ++ replicate m 0
 unfolding chain
 chain-free made zero = sym (append-nil made)
 chain-free made (suc m) = chain-free (made ++ (0 ∷ [])) m ∙ append-assoc made (0 ∷ []) (replicate m 0)
 
-pub delay-held : (ns : List Node) (rs : List Rule) (x : Node) → delayOf (delays (tableHolding ns rs .nodes)) x ≡ delayOf (delays ns) x
+pub delay-held : (ns : List Node) (rs : List Rule) (x : Node) → delayOver (delays (tableHolding ns rs .nodes)) x ≡ delayOver (delays ns) x
 delay-held ns rs x =
     let m = 64 - length ns in
-    let c = chain delayOf [] ns in
+    let c = chain delayOver [] ns in
     let e : delays (padded noNode 64 ns) ≡ c ++ replicate m 0 =
-    delays-chain (padded noNode 64 ns) ∙ chain-append delayOf [] ns (replicate m noNode) ∙ chain-free c m in
+    delays-chain (padded noNode 64 ns) ∙ chain-append delayOver [] ns (replicate m noNode) ∙ chain-free c m in
     rw (e, delays-chain ns, getD-padded 0 c m (x .left), getD-padded 0 c m (x .right))
 
 -- ---- a name among those of the rules before the free places

@@ -1,5 +1,5 @@
 -- the answers of the code
-pub mod Answers
+mod Answers
 -- the table that holds given nodes and rules: its delays, its names, and one more of each
 pub mod Holding
 -- a table that is built and has a rule is sound

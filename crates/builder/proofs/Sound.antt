@@ -15,7 +15,7 @@ use Rattle.lists.proofs.Rows.{no-row}
 use Rattle.lists.proofs.Sequences.{length-snoc, at-last, at-old, each-place, getD-padded, length-padded, chain-last, chain-old, chain-prefix}
 use Rattle.mltl.specs.Mltl.{const, delay}
 use Rattle.interval.specs.Parts.{badInterval}
-use Rattle.table.specs.Nodes.{opOf, usesOf, noNode, noRule, formulaOf, formulas, formulaAt, delayOf, delays}
+use Rattle.table.specs.Nodes.{opOf, usesOf, noNode, noRule, formulaOver, formulas, formulaAt, delayOver, delays}
 use Rattle.table.specs.Sound.{NodeFits, RuleFits, Sound}
 use Rattle.table.specs.declared.Node.{Node}
 use Rattle.table.specs.declared.Rule.{Rule}
@@ -47,7 +47,7 @@ good-none = record {
 }
 
 -- a node more
-pub good-node : (ns : List Node) (rs : List Rule) (x : Node) → Good ns rs → length ns < 64 → NodeFits (length ns) x → delayOf (delays ns) x ≤ 4095
+pub good-node : (ns : List Node) (rs : List Rule) (x : Node) → Good ns rs → length ns < 64 → NodeFits (length ns) x → delayOver (delays ns) x ≤ 4095
     → Good (ns ++ (x ∷ [])) rs
 good-node ns rs x g room fits d = record {
   few-nodes = omega (arith, length-snoc ns x noNode);
@@ -56,8 +56,8 @@ good-node ns rs x g room fits d = record {
       each-place ns x (λ i. NodeFits i (getD (ns ++ (x ∷ [])) i noNode)) (λ k h. rw (at-old ns x noNode k h) (g .node k h))
       (rw (at-last ns x noNode) fits);
   short =
-      each-place ns x (λ i. delay (formulaAt (ns ++ (x ∷ [])) i) ≤ 4095) (λ k h. rw (chain-old formulaOf (const false) ns x k h) (g .short k h))
-      (rw (chain-last formulaOf (const false) ns x, delay-of (formulas ns) x) d);
+      each-place ns x (λ i. delay (formulaAt (ns ++ (x ∷ [])) i) ≤ 4095) (λ k h. rw (chain-old formulaOver (const false) ns x k h) (g .short k h))
+      (rw (chain-last formulaOver (const false) ns x, delay-of (formulas ns) x) d);
   rule = λ i h.
       let r = g .rule i h in
       record { named = r .named; largest = r .largest; watched = omega (arith, r .watched, length-snoc ns x noNode) };
@@ -101,7 +101,7 @@ good-sound ns rs g some =
       few-rules = g .few-rules;
       node = λ i h. rw (node-at i) (g .node i h);
       free-node = λ i h l. node-at i ∙ List·getD-eq-default ns noNode {n = i} h;
-      short = λ i h. rw (chain-prefix formulaOf (const false) ns (replicate (64 - length ns) noNode) i h) (g .short i h);
+      short = λ i h. rw (chain-prefix formulaOver (const false) ns (replicate (64 - length ns) noNode) i h) (g .short i h);
       rule = λ i h. rw (rule-at i) (g .rule i h);
       distinct = λ i j l h p. g .distinct i j l h (rw (rule-at i, rule-at j) at p);
       free-rule = λ i h l. rule-at i ∙ List·getD-eq-default rs noRule {n = i} h;
@@ -138,8 +138,8 @@ module _ (ns : List Node) (rs : List Rule) where
     pub node-room : length ns < 64
     node-room = leb-false 64 (length ns) (no-node-row 3)
 
-    pub node-short : delayOf (delays ns) x ≤ 4095
-    node-short = subst (λ (d : ℕ). d ≤ 4095) (delay-held ns rs x) (ltb-false 4095 (delayOf (delays (t .nodes)) x) (no-node-row 4))
+    pub node-short : delayOver (delays ns) x ≤ 4095
+    node-short = subst (λ (d : ℕ). d ≤ 4095) (delay-held ns rs x) (ltb-false 4095 (delayOver (delays (t .nodes)) x) (no-node-row 4))
 
   module _ (x : Rule) (h : first (addRuleRows t x) ≡ 0) where
     no-rule-row : (i : ℕ) → getD (addRuleRows t x) i (0 if false) .test ≡ false

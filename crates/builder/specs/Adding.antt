@@ -10,7 +10,7 @@ use Rattle.refusals.specs.Numbers.{ARGUMENT, INTERVAL, OPERAND, FULL, LONG, NAM
 use Rattle.lists.specs.Choice.{Row, pick, _if_, first}
 use Rattle.lists.specs.Sequence.{every}
 use Rattle.interval.specs.Parts.{badInterval}
-use Rattle.table.specs.Nodes.{opOf, usesOf, delayOf, delays}
+use Rattle.table.specs.Nodes.{opOf, usesOf, delayOver, delays}
 use Rattle.table.specs.Sound.{differs}
 use Rattle.table.specs.declared.Node.{Node}
 use Rattle.table.specs.declared.Rule.{Rule}
@@ -29,7 +29,7 @@ badOperand t n =
 
 -- the node's delay is above the longest
 abbrev pub tooLong : Table → Node → Bool
-tooLong t n = ltb maxDelay (delayOf (delays (t .nodes)) n)
+tooLong t n = ltb maxDelay (delayOver (delays (t .nodes)) n)
 
 abbrev pub addNodeRows : Table → Node → List Row
 addNodeRows t n =

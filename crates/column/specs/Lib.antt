@@ -1,1 +1,2 @@
+-- registers: lists of words that hold a column of bits
 pub mod Column

@@ -16,7 +16,7 @@ use Rattle.table.specs.declared.Rule.{Rule}
 use Rattle.table.specs.declared.Table.{Table}
 use Rattle.table.specs.Nodes.{noNode, noRule, noTable, nodeAt, ruleAt}
 use Rattle.table.specs.Sound.{Sound}
-use Rattle.flat.specs.Flat.{nodeByte, ruleByte, tableByte, bytesOf, written, byteAt, pairAt, nodeFrom, ruleFrom, unpadded, tableFrom}
+use Rattle.flat.specs.Flat.{nodeByte, ruleByte, tableByte, bytesHolding, written, byteAt, pairAt, nodeFrom, ruleFrom, unpadded, tableFrom}
 
 -- ---- the answers of `read_table`
 module _ (b : List ℕ) where
@@ -58,10 +58,10 @@ module _ (b c : List ℕ) (e : take 546 b ≡ take 546 c) where
 -- ---- a sound table's bytes
 module _ (t : Table) (rest : List ℕ) where
   abbrev bytes : List ℕ
-  bytes = bytesOf t ++ rest
+  bytes = bytesHolding t ++ rest
 
   at : (j : ℕ) → j < 546 → byteAt bytes j ≡ tableByte t j
-  at j h = List·getD-append (bytesOf t) rest 0 j (omega (arith, length-ticks (tableByte t) 546)) ∙ getD-ticks (tableByte t) 546 j 0 h
+  at j h = List·getD-append (bytesHolding t) rest 0 j (omega (arith, length-ticks (tableByte t) 546)) ∙ getD-ticks (tableByte t) 546 j 0 h
 
   -- byte k of node i, and of rule i
   in-node : (i k j : ℕ) → i < 64 → k < 8 → j ≡ 2 + 8 * i + k → byteAt bytes j ≡ nodeByte (nodeAt t i) k
@@ -106,7 +106,7 @@ module _ (t : Table) (rest : List ℕ) where
 
   pub read-written : Sound t → tableFrom bytes ≡ t
   read-written s =
-      let l : 546 ≤ length bytes = omega (arith, length-append (bytesOf t) rest, length-ticks (tableByte t) 546) in
+      let l : 546 ≤ length bytes = omega (arith, length-append (bytesHolding t) rest, length-ticks (tableByte t) 546) in
       let ns : ticks (nodeFrom bytes) 64 ≡ t .nodes =
       ext-getD noNode (ticks (nodeFrom bytes) 64) (t .nodes) (length-ticks (nodeFrom bytes) 64 ∙ sym (s .places))
       (λ i h. let k : i < 64 = omega (arith, length-ticks (nodeFrom bytes) 64) in getD-ticks (nodeFrom bytes) 64 i noNode k ∙ node-back i k) in
@@ -118,14 +118,14 @@ module _ (t : Table) (rest : List ℕ) where
       sym (from-bytes bytes l unpadded-back) ∙ (λ x. record { nodes = ns x; «node_count» = nc x; rules = rs x; «rule_count» = rc x })
 
   -- a buffer after `write_table`
-  pub written-is : 546 ≤ length rest → written t rest ≡ bytesOf t ++ drop 546 rest
+  pub written-is : 546 ≤ length rest → written t rest ≡ bytesHolding t ++ drop 546 rest
   unfolding written
   written-is h = simp (le-leb 546 (length rest) h)
 
 module _ (t : Table) (b : List ℕ) (h : 546 ≤ length b) where
   pub length-written : length (written t b) ≡ length b
   length-written =
-      ap length (written-is t b h) ∙ length-append (bytesOf t) (drop 546 b) ∙ omega (arith, length-ticks (tableByte t) 546, length-drop 546 b)
+      ap length (written-is t b h) ∙ length-append (bytesHolding t) (drop 546 b) ∙ omega (arith, length-ticks (tableByte t) 546, length-drop 546 b)
 
   pub table-back : Sound t → tableFrom (written t b) ≡ t
   table-back s = ap tableFrom (written-is t b h) ∙ read-written t (drop 546 b) s

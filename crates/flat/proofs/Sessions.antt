@@ -12,7 +12,7 @@ use Rattle.lists.proofs.Sequences.{length-ticks}
 use Rattle.table.specs.declared.Table.{Table}
 use Rattle.table.specs.Nodes.{noTable}
 use Rattle.table.specs.Sound.{Sound}
-use Rattle.flat.specs.Flat.{tableByte, bytesOf, tableFrom, written}
+use Rattle.flat.specs.Flat.{tableByte, bytesHolding, tableFrom, written}
 use Rattle.flat.proofs.Laws.{read-written, written-is, same-table}
 use Rattle.session.specs.declared.Session.{Session}
 use Rattle.session.specs.Session.{withSeen}
@@ -103,7 +103,7 @@ session-back s b l t r n =
     let p₁ : List ℕ = putFour w 546 rule in
     let p₂ : List ℕ = putFour p₁ 550 (s .seen) in
     let p₃ : List ℕ = putFour p₂ 554 0 in
-    let tb : List ℕ = bytesOf (s .table) in
+    let tb : List ℕ = bytesHolding (s .table) in
     let lt : length tb ≡ 546 = length-ticks (tableByte (s .table)) 546 in
     let is : w ≡ tb ++ drop 546 b = written-is (s .table) b (omega arith) in
     let lw : length w ≡ 558 = ap length is ∙ length-append tb (drop 546 b) ∙ omega (arith, lt, length-drop 546 b) in

@@ -27,12 +27,12 @@ tableByte t j =
     pick (ltb j 2) (getD (t .«node_count» % 256 ∷ t .«rule_count» % 256 ∷ []) j 0)
     (pick (ltb j 514) (nodeByte (nodeAt t ((j - 2) / 8)) ((j - 2) % 8)) (ruleByte (ruleAt t ((j - 514) / 4)) ((j - 514) % 4)))
 
-abbrev pub bytesOf : Table → List ℕ
-bytesOf t = ticks (tableByte t) tableBytes
+abbrev pub bytesHolding : Table → List ℕ
+bytesHolding t = ticks (tableByte t) tableBytes
 
 -- a buffer with the table's bytes in its first places, if it has room for them
 unfoldable pub written : Table → List ℕ → List ℕ
-written t out = pick (leb tableBytes (length out)) (bytesOf t ++ drop tableBytes out) out
+written t out = pick (leb tableBytes (length out)) (bytesHolding t ++ drop tableBytes out) out
 
 -- ---- from bytes
 abbrev pub byteAt : List ℕ → ℕ → ℕ

@@ -1,2 +1,4 @@
+-- a table as bytes
 pub mod Flat
+-- a session as bytes
 pub mod Sessions

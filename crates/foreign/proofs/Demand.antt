@@ -31,7 +31,7 @@ use Rattle.mission.specs.Calls.{Meets, statesFed, verdictsGiven}
 use Rattle.mission.specs.Calls as calls
 use Rattle.mission.specs.Mission as mission
 use Rattle.mission.proofs.ThirdDemand.{third-demand}
-use Rattle.foreign.specs.Demand.{Lent, Call, feed, close, lent, Contract, number, actOf, asCall, Calls, begin, accepted, refused, Start, verdictOf, delayOf, Untouched, ForeignDemand}
+use Rattle.foreign.specs.Demand.{Lent, Call, feed, close, lent, Contract, answeredNumber, actOf, asCall, Calls, begin, accepted, refused, Start, verdictOf, startDelay, Untouched, ForeignDemand}
 
 -- ---- the bytes after a call
 -- the bytes hold the session that the answer hands back
@@ -98,7 +98,7 @@ meets (close l) k =
 
 -- ---- refusals
 refusals : (c : Call) → Contract c
-    → (¬ (number c ≡ 0)) ↔ (someFits (calls.rowsOf (actOf c) (sessionFrom (lent c .session)) (lent c .history) (lent c .scratch) (lent c .out)) ≡ true)
+    → (¬ (answeredNumber c ≡ 0)) ↔ (someFits (calls.rowsOf (actOf c) (sessionFrom (lent c .session)) (lent c .history) (lent c .scratch) (lent c .out)) ≡ true)
 refusals c k = third-demand .calls-refused (asCall c) (meets c k)
 
 -- a refused effect hands back its buffers, and the bytes stay
@@ -111,7 +111,7 @@ untouched-by {e} {n} l p z c = record {
   out = c .out-is ∙ ap (λ (x : Effect). x .out) p;
 }
 
-untouched : (c : Call) → Contract c → (number c ≡ 0 → ⊥) → Untouched (lent c)
+untouched : (c : Call) → Contract c → (answeredNumber c ≡ 0 → ⊥) → Untouched (lent c)
 untouched (feed block l) k n =
     let r = feed-refused (sessionFrom (l .session)) (l .history) (l .scratch) (l .out) block (λ z. n (ap (λ (x : Effect). x .answer .number) (meets (feed block l) k) ∙ z)) in
     untouched-by l (r .0) (r .1) k
@@ -124,11 +124,11 @@ module _ (first start : List ℕ) where
   abbrev Listed : List Call → List ℕ → List ℕ → Bool → Type 0
   Listed cs b h ended = calls.Calls (sessionFrom first) start (map asCall cs) (sessionFrom b) h ended
 
-  listed-accepted : (cs : List Call) (c : Call) → Listed cs (lent c .session) (lent c .history) false → Contract c → number c ≡ 0
+  listed-accepted : (cs : List Call) (c : Call) → Listed cs (lent c .session) (lent c .history) false → Contract c → answeredNumber c ≡ 0
       → Listed (cs ++ (c ∷ [])) (lent c .session′) (lent c .history′) (calls.ends (actOf c))
   listed-accepted cs c a k z = rw map-append (calls.accepted (asCall c) a (meets c k) z)
 
-  listed-refused : (cs : List Call) (b h : List ℕ) (ended : Bool) (c : Call) → Listed cs b h ended → Contract c → (number c ≡ 0 → ⊥)
+  listed-refused : (cs : List Call) (b h : List ℕ) (ended : Bool) (c : Call) → Listed cs b h ended → Contract c → (answeredNumber c ≡ 0 → ⊥)
       → Listed (cs ++ (c ∷ [])) b h ended
   listed-refused cs b h ended c a k n = rw map-append (calls.refused (asCall c) a (meets c k) n)
 
@@ -199,7 +199,7 @@ module _ (m : Start) where
   of-mission l = rw held-session at (listed (m .session) (m .history) l)
 
 claim : (m : Start) (cs : List Call) (b h : List ℕ) (ended : Bool) → Calls (m .session) (m .history) cs b h ended
-    → Claim (verdictOf m) (delayOf m) (m .history) ended h (statesFed (map asCall cs)) (verdictsGiven (map asCall cs))
+    → Claim (verdictOf m) (startDelay m) (m .history) ended h (statesFed (map asCall cs)) (verdictsGiven (map asCall cs))
 claim m cs b h ended l = rw (held-simple m) (third-demand .claim (start-is m) (map asCall cs) (sessionFrom b) h ended (of-mission m l))
 
 pub foreign-demand : ForeignDemand

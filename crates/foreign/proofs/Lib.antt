@@ -1,2 +1,2 @@
 -- the third demand for calls of the C interface
-pub mod Demand
+mod Demand

@@ -50,11 +50,11 @@ Contract (close l) =
     Called (closing (sessionFrom (l .session)) (l .history) (l .scratch) (l .out)) (l .session) (l .answer) (l .session′) (l .history′) (l .scratch′) (l .out′)
 
 -- the number and the count that an answer holds
-abbrev pub number : Call → ℕ
-number c = lent c .answer % 4294967296
+abbrev pub answeredNumber : Call → ℕ
+answeredNumber c = lent c .answer % 4294967296
 
-abbrev pub count : Call → ℕ
-count c = lent c .answer / 4294967296
+abbrev pub answeredCount : Call → ℕ
+answeredCount c = lent c .answer / 4294967296
 
 -- the call as one of crate mission: the sessions are those that the bytes hold, before and after
 abbrev pub actOf : Call → mission.Act
@@ -69,7 +69,7 @@ asCall c = record {
   scratch = lent c .scratch;
   out = lent c .out;
   effect = record {
-    answer = record { number = number c; count = count c; session = sessionFrom (lent c .session′) };
+    answer = record { number = answeredNumber c; count = answeredCount c; session = sessionFrom (lent c .session′) };
     history = lent c .history′;
     scratch = lent c .scratch′;
     out = lent c .out′;
@@ -81,9 +81,9 @@ asCall c = record {
 -- bytes and history, as the last accepted call left them; a refused one may be given any.
 pub data Calls (first start : List ℕ) : List Call → List ℕ → List ℕ → Bool → Type 0 where
   begin : Calls first start [] first start false
-  accepted : {cs : List Call} (c : Call) → Calls first start cs (lent c .session) (lent c .history) false → Contract c → number c ≡ 0
+  accepted : {cs : List Call} (c : Call) → Calls first start cs (lent c .session) (lent c .history) false → Contract c → answeredNumber c ≡ 0
       → Calls first start (cs ++ (c ∷ [])) (lent c .session′) (lent c .history′) (mission.ends (actOf c))
-  refused : {cs : List Call} {b h : List ℕ} {ended : Bool} (c : Call) → Calls first start cs b h ended → Contract c → (number c ≡ 0 → ⊥)
+  refused : {cs : List Call} {b h : List ℕ} {ended : Bool} (c : Call) → Calls first start cs b h ended → Contract c → (answeredNumber c ≡ 0 → ⊥)
       → Calls first start (cs ++ (c ∷ [])) b h ended
 
 -- ---- the start: three calls that answered 0, as their contracts say; what a buffer held before is `old`
@@ -113,8 +113,8 @@ pub record Start : Type 0 where
 abbrev pub verdictOf : Start → List ℕ → ℕ → Bool
 verdictOf m = holds (watchedFormula (reading (m .book) .table) (m .rule))
 
-abbrev pub delayOf : Start → ℕ
-delayOf m = delay (watchedFormula (tableFrom (m .simple)) (m .rule))
+abbrev pub startDelay : Start → ℕ
+startDelay m = delay (watchedFormula (tableFrom (m .simple)) (m .rule))
 
 -- ---- the third demand
 -- a refused call writes nothing
@@ -127,11 +127,11 @@ pub record Untouched (l : Lent) : Type 0 where
 pub record ForeignDemand : Type 0 where
   -- what holds of every list of calls
   pub claim : (m : Start) (cs : List Call) (b h : List ℕ) (ended : Bool) → Calls (m .session) (m .history) cs b h ended
-      → Claim (verdictOf m) (delayOf m) (m .history) ended h (statesFed (map asCall cs)) (verdictsGiven (map asCall cs))
+      → Claim (verdictOf m) (startDelay m) (m .history) ended h (statesFed (map asCall cs)) (verdictsGiven (map asCall cs))
   -- the bytes after a call hold the session that the call handed back: it is a call of crate mission
   pub calls : (c : Call) → Contract c → Meets (asCall c)
   -- after an accepted close they hold the session that open gave
   pub reopened : (m : Start) (cs : List Call) (b h : List ℕ) → Calls (m .session) (m .history) cs b h true → sessionFrom b ≡ sessionFrom (m .session)
   -- a call is refused exactly where a row fits it, and then writes nothing
-  pub refusals : (c : Call) → Contract c → (¬ (number c ≡ 0)) ↔ (someFits (mission.rowsOf (actOf c) (sessionFrom (lent c .session)) (lent c .history) (lent c .scratch) (lent c .out)) ≡ true)
-  pub untouched : (c : Call) → Contract c → (number c ≡ 0 → ⊥) → Untouched (lent c)
+  pub refusals : (c : Call) → Contract c → (¬ (answeredNumber c ≡ 0)) ↔ (someFits (mission.rowsOf (actOf c) (sessionFrom (lent c .session)) (lent c .history) (lent c .scratch) (lent c .out)) ≡ true)
+  pub untouched : (c : Call) → Contract c → (answeredNumber c ≡ 0 → ⊥) → Untouched (lent c)

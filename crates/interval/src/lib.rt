@@ -15,7 +15,7 @@ pub struct Splitting {
     pub count: usize,
 }
 
-struct Filled {
+struct Found {
     ks: [u8; MAX_PARTS],
     n: usize,
 }
@@ -37,12 +37,12 @@ fn without(rest: u32, k: u32) -> u32
 }
 
 // The parts of rest, written to ks from place n on.
-fn fill(rest: u32, ks: [u8; MAX_PARTS], n: usize) -> Filled
+fn fill(rest: u32, ks: [u8; MAX_PARTS], n: usize) -> Found
     requires { ⌜ (rest ≤ maxInterval) × (n + length (parts rest) ≤ maxParts) ⌝ }
     ensures { λ r. ⌜ (r .ks ≡ sets ks n (parts rest)) × (r .n ≡ n + length (parts rest)) ⌝ }
 {
     if rest == 0 {
-        return Filled { ks, n };
+        return Found { ks, n };
     }
     let k = largest(rest);
     let mut next = ks;

@@ -17,7 +17,8 @@ use Rattle.lists.proofs.Sequences.{sets-append}
 use Rattle.lines.specs.declared.Line.{Line}
 use Rattle.lines.specs.declared.Scan.{Scan}
 use Rattle.lines.specs.declared.Filled.{Filled}
-use Rattle.lines.specs.Lines.{Reading, state, bad, lastLine, linesFrom, allDigits, valueFrom, lineAfter, lineOf, readings, empty, noState, withByte, isState, readingOf, readingsFrom, scanned, Filling, noneRead, after, lineEnded, filling, filledFrom}
+use Rattle.lines.specs.Lines.{Parsed, state, bad, lastLine, linesFrom, allDigits, valueFrom, lineAfter, lineOf, parsedLines, empty, noState, withByte, isState, parsedOf, parsedFrom, Filling, noneRead, preceded, lineEnded, filling, filledFrom}
+use Rattle.lines.specs.Code.Steps.{scanned}
 
 pick-same : {A : Type 0} {a : A} (t : Bool) → pick t a a ≡ a
 pick-same true = refl
@@ -46,7 +47,7 @@ abbrev bytewise : Line → List ℕ → Line
 bytewise l [] = l
 bytewise l (b ∷ bs) = bytewise (withByte l b) bs
 
-bad-stays : (bs : List ℕ) → readingOf (bytewise noState bs) ≡ bad
+bad-stays : (bs : List ℕ) → parsedOf (bytewise noState bs) ≡ bad
 unfolding withByte
 bad-stays [] = refl
 bad-stays (b ∷ bs) = bad-stays bs
@@ -94,12 +95,12 @@ module _ (l : Line) (b : ℕ) where
 
   -- a byte that makes the line bad
   run-bad : (bs : List ℕ) → withByte l b ≡ noState → lineAfter (l .digits) (l .value) (b ∷ bs) ≡ bad
-      → readingOf (bytewise l (b ∷ bs)) ≡ lineAfter (l .digits) (l .value) (b ∷ bs)
-  run-bad bs e w = ap (λ (m : Line). readingOf (bytewise m bs)) e ∙ bad-stays bs ∙ sym w
+      → parsedOf (bytewise l (b ∷ bs)) ≡ lineAfter (l .digits) (l .value) (b ∷ bs)
+  run-bad bs e w = ap (λ (m : Line). parsedOf (bytewise m bs)) e ∙ bad-stays bs ∙ sym w
 
   -- a byte that leads to the line m
-  run-good : (bs : List ℕ) (m : Line) (r : Reading) → withByte l b ≡ m → readingOf (bytewise m bs) ≡ r → readingOf (bytewise l (b ∷ bs)) ≡ r
-  run-good bs m r e w = ap (λ (k : Line). readingOf (bytewise k bs)) e ∙ w
+  run-good : (bs : List ℕ) (m : Line) (r : Parsed) → withByte l b ≡ m → parsedOf (bytewise m bs) ≡ r → parsedOf (bytewise l (b ∷ bs)) ≡ r
+  run-good bs m r e w = ap (λ (k : Line). parsedOf (bytewise k bs)) e ∙ w
 
   digits-low : (bs : List ℕ) → b < 48 → allDigits (b ∷ bs) ≡ false
   digits-low bs h = rw (lt-leb 48 b h)
@@ -114,12 +115,12 @@ module _ (l : Line) (b : ℕ) where
       rw (le-leb 48 b i, le-leb b 57 j, e)
 
 -- the tests of a line that ends, in the definition's order
-tests : (p q r : Bool) (x : Reading) → pick (p && q && r) x bad ≡ pick p (pick q (pick r x bad) bad) bad
+tests : (p q r : Bool) (x : Parsed) → pick (p && q && r) x bad ≡ pick p (pick q (pick r x bad) bad) bad
 tests true true r x = refl
 tests true false r x = refl
 tests false q r x = refl
 
-run-is : (bs : List ℕ) (l : Line) → readingOf (bytewise l bs) ≡ lineAfter (l .digits) (l .value) bs
+run-is : (bs : List ℕ) (l : Line) → parsedOf (bytewise l bs) ≡ lineAfter (l .digits) (l .value) bs
 unfolding lineAfter
 run-is [] l = rw (add-zero (l .digits)) (tests (leb 1 (l .digits)) (leb (l .digits) 10) (leb (l .value) 4294967295) (state (l .value)))
 run-is (b ∷ bs) l =
@@ -162,26 +163,26 @@ still : (l : Line) (bs : List ℕ) → 0 < l .digits → 0 < bytewise l bs .digi
 still l [] h = h
 still l (b ∷ bs) h = still (withByte l b) bs (begun l b)
 
-last-line : (line : List ℕ) → readingsFrom (bytewise empty line) [] ≡ map lineOf (lastLine line)
-unfolding readingsFrom
+last-line : (line : List ℕ) → parsedFrom (bytewise empty line) [] ≡ map lineOf (lastLine line)
+unfolding parsedFrom
 last-line [] = refl
 last-line (b ∷ bs) =
     let n : 0 < bytewise (withByte empty b) bs .digits = still (withByte empty b) bs (begun empty b) in
-    rw (ne-eqb (bytewise (withByte empty b) bs .digits) 0 (λ e. omega arith)) (ap (λ (r : Reading). r ∷ []) (run-is (b ∷ bs) empty))
+    rw (ne-eqb (bytewise (withByte empty b) bs .digits) 0 (λ e. omega arith)) (ap (λ (r : Parsed). r ∷ []) (run-is (b ∷ bs) empty))
 
-text-step : (line : List ℕ) (b : ℕ) (bs : List ℕ) (t : Bool) → readingsFrom empty bs ≡ map lineOf (linesFrom [] bs)
-    → readingsFrom (bytewise empty (line ++ (b ∷ []))) bs ≡ map lineOf (linesFrom (line ++ (b ∷ [])) bs)
-    → pick t (readingOf (bytewise empty line) ∷ readingsFrom empty bs) (readingsFrom (withByte (bytewise empty line) b) bs)
+text-step : (line : List ℕ) (b : ℕ) (bs : List ℕ) (t : Bool) → parsedFrom empty bs ≡ map lineOf (linesFrom [] bs)
+    → parsedFrom (bytewise empty (line ++ (b ∷ []))) bs ≡ map lineOf (linesFrom (line ++ (b ∷ [])) bs)
+    → pick t (parsedOf (bytewise empty line) ∷ parsedFrom empty bs) (parsedFrom (withByte (bytewise empty line) b) bs)
     ≡ map lineOf (pick t (line ∷ linesFrom [] bs) (linesFrom (line ++ (b ∷ [])) bs))
-text-step line b bs true e f = ap₂ (λ (x : Reading) (xs : List Reading). x ∷ xs) (run-is line empty) e
-text-step line b bs false e f = ap (λ (l : Line). readingsFrom l bs) (sym (bytewise-snoc empty line b)) ∙ f
+text-step line b bs true e f = ap₂ (λ (x : Parsed) (xs : List Parsed). x ∷ xs) (run-is line empty) e
+text-step line b bs false e f = ap (λ (l : Line). parsedFrom l bs) (sym (bytewise-snoc empty line b)) ∙ f
 
-text-from : (line text : List ℕ) → readingsFrom (bytewise empty line) text ≡ map lineOf (linesFrom line text)
-unfolding readingsFrom
+text-from : (line text : List ℕ) → parsedFrom (bytewise empty line) text ≡ map lineOf (linesFrom line text)
+unfolding parsedFrom
 text-from line [] = last-line line
 text-from line (b ∷ bs) = text-step line b bs (eqb b 10) (text-from [] bs) (text-from (line ++ (b ∷ [])) bs)
 
-pub text-is : (text : List ℕ) → readingsFrom empty text ≡ readings text
+pub text-is : (text : List ℕ) → parsedFrom empty text ≡ parsedLines text
 text-is = text-from []
 
 -- ---- where a scan stops
@@ -217,11 +218,11 @@ scan-past (b ∷ bs) at l e = past-step b at bs l (eqb b 10) (scan-past bs (at +
 part-step : (t : Bool) (room b at : ℕ) (bs : List ℕ) (l : Line)
     → (next b at bs l .ended ≡ false → filling (suc room) (withByte l b) bs ≡ record { states = []; line = next b at bs l .line; used = length bs; isBad = false })
     → pick t (record { at = at + 1; line = l; ended = true }) (next b at bs l) .ended ≡ false
-    → pick t (lineEnded (readingOf l) 1 (filling room empty bs)) (after [] 1 (filling (suc room) (withByte l b) bs))
+    → pick t (lineEnded (parsedOf l) 1 (filling room empty bs)) (preceded [] 1 (filling (suc room) (withByte l b) bs))
     ≡ record { states = []; line = pick t (record { at = at + 1; line = l; ended = true }) (next b at bs l) .line; used = suc (length bs); isBad = false }
 part-step true room b at bs l ih e = absurd (true≢false e)
 part-step false room b at bs l ih e =
-    ap (after [] 1) (ih e) ∙ (let w : 1 + length bs ≡ suc (length bs) = omega arith in rw w)
+    ap (preceded [] 1) (ih e) ∙ (let w : 1 + length bs ≡ suc (length bs) = omega arith in rw w)
 
 fill-part : (room : ℕ) (xs : List ℕ) (at : ℕ) (l : Line) → scanned xs at l .ended ≡ false
     → filling (suc room) l xs ≡ record { states = []; line = scanned xs at l .line; used = length xs; isBad = false }
@@ -230,19 +231,19 @@ fill-part room [] at l e = refl
 fill-part room (b ∷ bs) at l e = part-step (eqb b 10) room b at bs l (fill-part room bs (at + 1) (withByte l b)) e
 
 -- a line end in it: what the line says, and then the rest
-after-one : (r : Reading) (n : ℕ) (f : Filling) → after [] 1 (lineEnded r n f) ≡ lineEnded r (suc n) f
+after-one : (r : Parsed) (n : ℕ) (f : Filling) → preceded [] 1 (lineEnded r n f) ≡ lineEnded r (suc n) f
 after-one (state v) n f = let e : 1 + (n + f .used) ≡ suc n + f .used = omega arith in rw e
 after-one bad n f = let e : 1 + n ≡ suc n = omega arith in rw e
 
 -- the line q, which ends n bytes further on
 abbrev lineThen : ℕ → List ℕ → Line → ℕ → Filling
-lineThen room xs l n = lineEnded (readingOf l) n (filling room empty (drop n xs))
+lineThen room xs l n = lineEnded (parsedOf l) n (filling room empty (drop n xs))
 
 end-step : (t : Bool) (room b at : ℕ) (bs : List ℕ) (l : Line)
     → (next b at bs l .ended ≡ true → (at + 1 < next b at bs l .at)
     × (filling (suc room) (withByte l b) bs ≡ lineThen room bs (next b at bs l .line) (next b at bs l .at - (at + 1))))
     → (q : Scan) → q ≡ pick t (record { at = at + 1; line = l; ended = true }) (next b at bs l) → q .ended ≡ true
-    → pick t (lineEnded (readingOf l) 1 (filling room empty bs)) (after [] 1 (filling (suc room) (withByte l b) bs))
+    → pick t (lineEnded (parsedOf l) 1 (filling room empty bs)) (preceded [] 1 (filling (suc room) (withByte l b) bs))
     ≡ lineThen room (b ∷ bs) (q .line) (q .at - at)
 end-step true room b at bs l ih q s e =
     let g : q .at - at ≡ suc 0 = (let w = ap (λ (x : Scan). x .at) s in omega (arith, w)) in
@@ -251,7 +252,7 @@ end-step false room b at bs l ih q s e =
     let w = ih (sym (ap (λ (x : Scan). x .ended) s) ∙ e) in
     let a = ap (λ (x : Scan). x .at) s in
     let g : q .at - at ≡ suc (next b at bs l .at - (at + 1)) = omega (arith, w .0, a) in
-    rw (g, ap (λ (x : Scan). x .line) s, w .1) (after-one (readingOf (next b at bs l .line)) _ _)
+    rw (g, ap (λ (x : Scan). x .line) s, w .1) (after-one (parsedOf (next b at bs l .line)) _ _)
 
 fill-end : (room : ℕ) (xs : List ℕ) (at : ℕ) (l : Line) → scanned xs at l .ended ≡ true
     → filling (suc room) l xs ≡ lineThen room xs (scanned xs at l .line) (scanned xs at l .at - at)
@@ -273,13 +274,13 @@ fill-none room l = refl
 -- ---- the lines that were read so far: their states are in the block, and the rest is still to be read
 pub record Reached (s block₀ : List ℕ) (at count : ℕ) (line : Line) (block : List ℕ) (i : ℕ) (l : Line) (k : ℕ) : Type 0 where
   pub done : List ℕ
-  pub text : filling (length block₀ - count) line (drop at s) ≡ after done (i - at) (filling (length block₀ - k) l (drop i s))
+  pub text : filling (length block₀ - count) line (drop at s) ≡ preceded done (i - at) (filling (length block₀ - k) l (drop i s))
   pub put : block ≡ sets block₀ count done
   pub place : k ≡ count + length done
   pub from : at ≤ i
   pub size : length block ≡ length block₀
 
-after-none : (n : ℕ) (f : Filling) → n ≡ 0 → after [] n f ≡ f
+after-none : (n : ℕ) (f : Filling) → n ≡ 0 → preceded [] n f ≡ f
 after-none n f e = let z : n + f .used ≡ f .used = omega arith in rw z
 
 pub reached-none : (s block : List ℕ) (at count : ℕ) (line : Line) → Reached s block at count line block at line count
@@ -292,7 +293,7 @@ reached-none s block at count line = record {
   size = refl;
 }
 
-after-after : (xs : List ℕ) (m v n : ℕ) (f : Filling) → after xs m (after (v ∷ []) n f) ≡ after (xs ++ (v ∷ [])) (m + n) f
+after-after : (xs : List ℕ) (m v n : ℕ) (f : Filling) → preceded xs m (preceded (v ∷ []) n f) ≡ preceded (xs ++ (v ∷ [])) (m + n) f
 after-after xs m v n f =
     let e : m + (n + f .used) ≡ m + n + f .used = omega arith in
     rw (e, append-assoc xs (v ∷ []) (f .states))
@@ -312,7 +313,7 @@ module _ {s block₀ block : List ℕ} {at count i k : ℕ} {line l : Line} (r :
 
   -- a line ended: its reading, and then the rest
   line-text : k < length block → q .ended ≡ true
-      → filling (length block₀ - k) l (drop i s) ≡ lineEnded (readingOf (q .line)) (q .at - i) (filling (length block₀ - (k + 1)) empty (drop (q .at) s))
+      → filling (length block₀ - k) l (drop i s) ≡ lineEnded (parsedOf (q .line)) (q .at - i) (filling (length block₀ - (k + 1)) empty (drop (q .at) s))
   line-text h e =
       let w = scan-within (drop i s) i l e in
       let j : i + (q .at - i) ≡ q .at = omega (arith, w .0) in
@@ -322,7 +323,7 @@ module _ {s block₀ block : List ℕ} {at count i k : ℕ} {line l : Line} (r :
   reached-more : k < length block → q .ended ≡ true → isState (q .line) ≡ true → Reached s block₀ at count line (set block k (q .line .value)) (q .at) empty (k + 1)
   reached-more h e v =
       let t : i - at + (q .at - i) ≡ q .at - at = omega (arith, r .from, scan-within (drop i s) i l e .0) in
-      let z : readingOf (q .line) ≡ state (q .line .value) = rw v in
+      let z : parsedOf (q .line) ≡ state (q .line .value) = rw v in
       record {
         done = r .done ++ (q .line .value ∷ []);
         text = r .text ∙ rw (line-text h e, z) (after-after (r .done) (i - at) (q .line .value) (q .at - i) _ ∙ rw t);
@@ -364,7 +365,7 @@ module _ {s block₀ block : List ℕ} {at count i k : ℕ} {line l : Line} (r :
   reached-bad : k < length block → q .ended ≡ true → isState (q .line) ≡ false
       → Filling-is s block₀ at count line block (record { at = q .at; line = empty; count = k; bad = true })
   reached-bad h e v =
-      let z : readingOf (q .line) ≡ bad = rw v in
+      let z : parsedOf (q .line) ≡ bad = rw v in
       reached-end empty (q .at - i) (q .at) true (line-text h e ∙ rw z) (omega (arith, scan-within (drop i s) i l e .0))
 
   -- the same for what the scan answered
@@ -390,31 +391,31 @@ module _ {s block₀ block : List ℕ} {at count i k : ℕ} {line l : Line} (r :
         (sym is) (λ e lt. omega (arith, scan-within (drop i s) i l e .0))
 
 -- ---- a text in parts: what the bytes that were read say, whatever follows
-abbrev pub badIf : Bool → List Reading
+abbrev pub badIf : Bool → List Parsed
 badIf t = pick t (bad ∷ []) []
 
 abbrev pub Reads : Line → List ℕ → List ℕ → Filling → Type 0
-Reads l xs later f = readingsFrom l (take (f .used) xs ++ later) ≡ map state (f .states) ++ (badIf (f .isBad) ++ readingsFrom (f .line) later)
+Reads l xs later f = parsedFrom l (take (f .used) xs ++ later) ≡ map state (f .states) ++ (badIf (f .isBad) ++ parsedFrom (f .line) later)
 
 -- one byte more in front, which ends a line
-reads-line : (r : Reading) (b : ℕ) (bs later : List ℕ) (f : Filling) → Reads empty bs later f → (l : Line) → readingOf l ≡ r → eqb b 10 ≡ true
+reads-line : (r : Parsed) (b : ℕ) (bs later : List ℕ) (f : Filling) → Reads empty bs later f → (l : Line) → parsedOf l ≡ r → eqb b 10 ≡ true
     → Reads l (b ∷ bs) later (lineEnded r 1 f)
-unfolding readingsFrom
+unfolding parsedFrom
 reads-line (state v) b bs later f e l s t =
     let w : 1 + f .used ≡ suc (f .used) = omega arith in
-    rw (w, t, s) (ap (λ (rs : List Reading). state v ∷ rs) e)
+    rw (w, t, s) (ap (λ (rs : List Parsed). state v ∷ rs) e)
 reads-line bad b bs later f e l s t = rw (t, s)
 
 -- one that does not
-reads-byte : (b : ℕ) (bs later : List ℕ) (l : Line) (f : Filling) → Reads (withByte l b) bs later f → eqb b 10 ≡ false → Reads l (b ∷ bs) later (after [] 1 f)
-unfolding readingsFrom
+reads-byte : (b : ℕ) (bs later : List ℕ) (l : Line) (f : Filling) → Reads (withByte l b) bs later f → eqb b 10 ≡ false → Reads l (b ∷ bs) later (preceded [] 1 f)
+unfolding parsedFrom
 reads-byte b bs later l f e t =
     let w : 1 + f .used ≡ suc (f .used) = omega arith in
     rw (w, t) e
 
 reads-step : (t : Bool) (l : Line) (b : ℕ) (bs later : List ℕ) (f g : Filling) → eqb b 10 ≡ t → Reads empty bs later f → Reads (withByte l b) bs later g
-    → Reads l (b ∷ bs) later (pick t (lineEnded (readingOf l) 1 f) (after [] 1 g))
-reads-step true l b bs later f g t d e = reads-line (readingOf l) b bs later f d l refl t
+    → Reads l (b ∷ bs) later (pick t (lineEnded (parsedOf l) 1 f) (preceded [] 1 g))
+reads-step true l b bs later f g t d e = reads-line (parsedOf l) b bs later f d l refl t
 reads-step false l b bs later f g t d e = reads-byte b bs later l g e t
 
 pub fill-reads : (room : ℕ) (l : Line) (xs later : List ℕ) → Reads l xs later (filling room l xs)
@@ -433,7 +434,7 @@ pub record Stops (room : ℕ) (xs : List ℕ) (f : Filling) : Type 0 where
   -- if there is room and a byte, a byte is read
   pub moves : 0 < room → 0 < length xs → 0 < f .used
 
-stops-line : (r : Reading) (room b : ℕ) (bs : List ℕ) (f : Filling) → Stops room bs f → Stops (suc room) (b ∷ bs) (lineEnded r 1 f)
+stops-line : (r : Parsed) (room b : ℕ) (bs : List ℕ) (f : Filling) → Stops room bs f → Stops (suc room) (b ∷ bs) (lineEnded r 1 f)
 stops-line (state v) room b bs f s = record {
   within = omega (arith, s .within);
   fits = omega (arith, s .fits);
@@ -443,8 +444,8 @@ stops-line (state v) room b bs f s = record {
 }
 stops-line bad room b bs f s = record { within = omega arith; fits = omega arith; whole = λ e h. absurd (true≢false e); spare = λ e. omega arith; moves = λ h k. omega arith }
 
-stops-step : (t : Bool) (r : Reading) (room b : ℕ) (bs : List ℕ) (f g : Filling) → Stops room bs f → Stops (suc room) bs g
-    → Stops (suc room) (b ∷ bs) (pick t (lineEnded r 1 f) (after [] 1 g))
+stops-step : (t : Bool) (r : Parsed) (room b : ℕ) (bs : List ℕ) (f g : Filling) → Stops room bs f → Stops (suc room) bs g
+    → Stops (suc room) (b ∷ bs) (pick t (lineEnded r 1 f) (preceded [] 1 g))
 stops-step true r room b bs f g s u = stops-line r room b bs f s
 stops-step false r room b bs f g s u = record {
   within = omega (arith, u .within);
@@ -459,14 +460,14 @@ unfolding filling
 fill-stops room l [] = record { within = omega arith; fits = omega arith; whole = λ e h. refl; spare = λ e. absurd (false≢true e); moves = λ h k. absurd (omega arith) }
 fill-stops zero l (b ∷ bs) = record { within = omega arith; fits = omega arith; whole = λ e h. absurd (omega arith); spare = λ e. absurd (false≢true e); moves = λ h k. absurd (omega arith) }
 fill-stops (suc room) l (b ∷ bs) =
-    stops-step (eqb b 10) (readingOf l) room b bs (filling room empty bs) (filling (suc room) (withByte l b) bs) (fill-stops room empty bs) (fill-stops (suc room) (withByte l b) bs)
+    stops-step (eqb b 10) (parsedOf l) room b bs (filling room empty bs) (filling (suc room) (withByte l b) bs) (fill-stops room empty bs) (fill-stops (suc room) (withByte l b) bs)
 
 -- after a line end there is no line so far
-line-gone : (r : Reading) → lineEnded r 1 (noneRead empty) .line ≡ empty
+line-gone : (r : Parsed) → lineEnded r 1 (noneRead empty) .line ≡ empty
 line-gone (state v) = refl
 line-gone bad = refl
 
 pub fill-newline : (room : ℕ) (l : Line) → 0 < room → filling room l (10 ∷ []) .line ≡ empty
 unfolding filling
 fill-newline zero l h = absurd (omega arith)
-fill-newline (suc room) l h = line-gone (readingOf l)
+fill-newline (suc room) l h = line-gone (parsedOf l)

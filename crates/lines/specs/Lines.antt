@@ -7,7 +7,6 @@ use lib.ListN.{length}
 use Rattle.limits.specs.Limits.{maxState}
 use Rattle.lists.specs.Choice.{pick}
 use Rattle.lines.specs.declared.Line.{Line}
-use Rattle.lines.specs.declared.Scan.{Scan}
 use Rattle.lines.specs.declared.Filled.{Filled}
 
 -- the most digits of a line
@@ -15,9 +14,9 @@ abbrev pub maxDigits : ℕ
 maxDigits = 10
 
 -- ---- what the lines of a text say
-pub data Reading : Type 0 where
-  state : ℕ → Reading
-  bad : Reading
+pub data Parsed : Type 0 where
+  state : ℕ → Parsed
+  bad : Parsed
 
 -- bytes after the last line end: a line, if there are any
 abbrev pub lastLine : List ℕ → List (List ℕ)
@@ -39,17 +38,17 @@ valueFrom v [] = v
 valueFrom v (b ∷ bs) = valueFrom (v * 10 + (b - 48)) bs
 
 -- a line is a state if it is 1 to 10 digits of a value in 0..maxState, with n digits of value v before these bytes
-unfoldable pub lineAfter : ℕ → ℕ → List ℕ → Reading
+unfoldable pub lineAfter : ℕ → ℕ → List ℕ → Parsed
 lineAfter n v bs =
     pick (leb 1 (n + length bs))
     (pick (leb (n + length bs) maxDigits) (pick (allDigits bs) (pick (leb (valueFrom v bs) maxState) (state (valueFrom v bs)) bad) bad) bad)
     bad
 
-abbrev pub lineOf : List ℕ → Reading
+abbrev pub lineOf : List ℕ → Parsed
 lineOf = lineAfter 0 0
 
-abbrev pub readings : List ℕ → List Reading
-readings text = map lineOf (linesFrom [] text)
+abbrev pub parsedLines : List ℕ → List Parsed
+parsedLines text = map lineOf (linesFrom [] text)
 
 -- ---- the same, byte by byte
 -- a line with no byte yet
@@ -75,20 +74,15 @@ withByte l b =
 abbrev pub isState : Line → Bool
 isState l = leb 1 (l .digits) && leb (l .digits) maxDigits && leb (l .value) maxState
 
-abbrev pub readingOf : Line → Reading
-readingOf l = pick (isState l) (state (l .value)) bad
+abbrev pub parsedOf : Line → Parsed
+parsedOf l = pick (isState l) (state (l .value)) bad
 
 -- what the lines of a text say, after a line so far
-unfoldable pub readingsFrom : Line → List ℕ → List Reading
-readingsFrom l [] = pick (eqb (l .digits) 0) [] (readingOf l ∷ [])
-readingsFrom l (b ∷ bs) = pick (eqb b 10) (readingOf l ∷ readingsFrom empty bs) (readingsFrom (withByte l b) bs)
+unfoldable pub parsedFrom : Line → List ℕ → List Parsed
+parsedFrom l [] = pick (eqb (l .digits) 0) [] (parsedOf l ∷ [])
+parsedFrom l (b ∷ bs) = pick (eqb b 10) (parsedOf l ∷ parsedFrom empty bs) (parsedFrom (withByte l b) bs)
 
 -- ---- a part of a text
--- bytes that start at a place, after a line so far: up to their first line end
-unfoldable pub scanned : List ℕ → ℕ → Line → Scan
-scanned [] at l = record { at = at; line = l; ended = false }
-scanned (b ∷ bs) at l = pick (eqb b 10) (record { at = at + 1; line = l; ended = true }) (scanned bs (at + 1) (withByte l b))
-
 -- the states of the lines that end in these bytes, `room` at most, up to the first bad line; the line so far then, how many bytes
 -- were read, and whether the last line was bad
 pub record Filling : Type 0 where
@@ -101,18 +95,18 @@ abbrev pub noneRead : Line → Filling
 noneRead l = record { states = []; line = l; used = 0; isBad = false }
 
 -- after states and bytes that were read before
-abbrev pub after : List ℕ → ℕ → Filling → Filling
-after xs n f = record { states = xs ++ f .states; line = f .line; used = n + f .used; isBad = f .isBad }
+abbrev pub preceded : List ℕ → ℕ → Filling → Filling
+preceded xs n f = record { states = xs ++ f .states; line = f .line; used = n + f .used; isBad = f .isBad }
 
 -- a line ended with byte number n: what it says, and what would follow a state
-abbrev pub lineEnded : Reading → ℕ → Filling → Filling
-lineEnded (state v) n f = after (v ∷ []) n f
+abbrev pub lineEnded : Parsed → ℕ → Filling → Filling
+lineEnded (state v) n f = preceded (v ∷ []) n f
 lineEnded bad n f = record { states = []; line = empty; used = n; isBad = true }
 
 unfoldable pub filling : ℕ → Line → List ℕ → Filling
 filling room l [] = noneRead l
 filling zero l (b ∷ bs) = noneRead l
-filling (suc room) l (b ∷ bs) = pick (eqb b 10) (lineEnded (readingOf l) 1 (filling room empty bs)) (after [] 1 (filling (suc room) (withByte l b) bs))
+filling (suc room) l (b ∷ bs) = pick (eqb b 10) (lineEnded (parsedOf l) 1 (filling room empty bs)) (preceded [] 1 (filling (suc room) (withByte l b) bs))
 
 -- the answer of `fill`, which began at place `at` of its part and place `count` of its block
 abbrev pub filledFrom : ℕ → ℕ → Filling → Filled

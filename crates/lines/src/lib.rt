@@ -4,7 +4,8 @@ ghost use Prim.Native.Nat.{_+_, _-_, _≤_};
 ghost use lib.ListN.{length, drop};
 ghost use lib.Seq.{sets};
 use limits::MAX_STATE;
-ghost use Rattle.lines.specs.Lines.{empty, withByte, isState, scanned, filling, filledFrom};
+ghost use Rattle.lines.specs.Lines.{empty, withByte, isState, filling, filledFrom};
+ghost use Rattle.lines.specs.Code.Steps.{scanned};
 
 // The most digits of a line; one more stands for a line that is bad already.
 const MAX_DIGITS: u32 = 10;

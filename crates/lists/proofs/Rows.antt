@@ -80,3 +80,34 @@ last-other (r ∷ rs) ts us p k e =
     let h : 0 < r .number = ltb-true 0 (r .number) (true-left _ _ p) in
     rw (none-test (r .number) (r .test) (first (rs ++ ts)) h e)
     (last-other rs ts us (true-right (ltb 0 (r .number)) (numbered rs) p) k (none-rest (r .number) (r .test) (first (rs ++ ts)) h e))
+
+-- ---- rows and others after them
+-- the first that fits, where one does; and that of the others, where none does
+pub first-of : (rs others : List Row) → ¬ (first rs ≡ 0) → first rs ≡ first (rs ++ others)
+first-of [] others z = absurd (z refl)
+first-of (r ∷ rs) others z = go (r .test) (first-of rs others) z
+  where
+    go : (x : Bool) → (¬ (first rs ≡ 0) → first rs ≡ first (rs ++ others)) → ¬ (pick x (r .number) (first rs) ≡ 0)
+        → pick x (r .number) (first rs) ≡ pick x (r .number) (first (rs ++ others))
+    go true h z = refl
+    go false h z = h z
+
+pub first-rest : (rs others : List Row) → numbered rs ≡ true → first rs ≡ 0 → first (rs ++ others) ≡ first others
+first-rest [] others p e = refl
+first-rest (r ∷ rs) others p e = go (r .test) (first-rest rs others (true-right (ltb 0 (r .number)) _ p)) e
+  where
+    go : (x : Bool) → (first rs ≡ 0 → first (rs ++ others) ≡ first others) → pick x (r .number) (first rs) ≡ 0
+        → pick x (r .number) (first (rs ++ others)) ≡ first others
+    go true h e = let l : 0 < r .number = ltb-true 0 (r .number) (true-left _ _ p) in absurd (omega arith)
+    go false h e = h e
+
+-- ---- row by row
+-- ---- rows
+-- the same test and number, and the rest where the test fails
+pub row-same : (n : ℕ) {a : Bool} (b : Bool) {g h : ℕ} → a ≡ b → (b ≡ false → g ≡ h) → pick a n g ≡ pick b n h
+row-same n true p q = rw p
+row-same n false p q = rw p (q refl)
+
+-- a row that never fits
+pub row-none : (n : ℕ) (b : Bool) {g h : ℕ} → b ≡ false → g ≡ h → g ≡ pick b n h
+row-none n b p q = rw p q

@@ -7,8 +7,8 @@ use Rattle.mltl.specs.Mltl.{holds, delay, someFrom, someTick, everyTick, eventu
 use Rattle.interval.specs.Parts.{largestTo, left, partsTo, parts}
 use Rattle.table.specs.Sound.{isSoundBy}
 use Rattle.session.specs.Session.{opening, feeding, closing}
-use Rattle.mission.specs.Rows.{rows, computed, printed}
+use Rattle.mission.specs.Rows.{markedRows, computed, stated}
 
-pub marked-rows : map computed rows ≡ map printed rows
+pub marked-rows : map computed markedRows ≡ map stated markedRows
 unfolding bit number wordAt pack packed every chain delay isSoundBy opening feeding closing holds someFrom someTick everyTick eventually until opposite always release largestTo left partsTo parts
 marked-rows = refl

@@ -18,7 +18,7 @@ use Rattle.session.specs.Session.{Effect, withSeen, opening}
 use Rattle.session.proofs.Effects.{opened-is, opened-rule, feed-number, close-number}
 use Rattle.acts.specs.Claim.{Claim}
 use Rattle.mission.specs.Calls.{Act, feed, close, effectOf, rowsOf, Call, Meets, numberOf, Calls, statesFed, verdictsGiven}
-use Rattle.mission.specs.Mission.{Start, sessionOf, delayOf, verdictOf, ThirdDemand}
+use Rattle.mission.specs.Mission.{Start, sessionOf, startDelay, verdictOf, ThirdDemand}
 use Rattle.mission.proofs.World.{Watch, Made}
 use Rattle.mission.proofs.Seen.{opened}
 use Rattle.mission.proofs.Listed.{seenBy, come-session, come-claim, beginning}
@@ -67,7 +67,7 @@ module _ (m : Start) where
       ∙ ap (λ (q : Session). withSeen q (seenBy ended cs)) (sym fresh)
 
 claim : (m : Start) (cs : List Call) (s : Session) (h : List ℕ) (ended : Bool) → Calls (sessionOf m) (m .history) cs s h ended
-    → Claim (verdictOf m) (delayOf m) (m .history) ended h (statesFed cs) (verdictsGiven cs)
+    → Claim (verdictOf m) (startDelay m) (m .history) ended h (statesFed cs) (verdictsGiven cs)
 claim m cs s h ended l = come-claim (simple m) (as-read m) (made m) (m .history) cs s h ended (from-fresh m l)
 
 reopened : (m : Start) (cs : List Call) (s : Session) (h : List ℕ) → Calls (sessionOf m) (m .history) cs s h true → s ≡ sessionOf m

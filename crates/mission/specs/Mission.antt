@@ -35,8 +35,8 @@ abbrev pub sessionOf : Start → Session
 sessionOf m = opening (m .simplified .table) (m .rule) .session
 
 -- D: the delay of the rule in the simplified table
-abbrev pub delayOf : Start → ℕ
-delayOf m = delay (watchedFormula (m .simplified .table) (m .rule))
+abbrev pub startDelay : Start → ℕ
+startDelay m = delay (watchedFormula (m .simplified .table) (m .rule))
 
 -- the verdict of the rule as it stood in the book, before simplifying
 abbrev pub verdictOf : Start → List ℕ → ℕ → Bool
@@ -53,7 +53,7 @@ pub record Beginning (first : Session) (start : List ℕ) (cs : List Call) : Typ
 pub record ThirdDemand : Type 0 where
   -- what holds of every list of calls, by whether a close was accepted in it
   pub claim : (m : Start) (cs : List Call) (s : Session) (h : List ℕ) (ended : Bool) → Calls (sessionOf m) (m .history) cs s h ended
-      → Claim (verdictOf m) (delayOf m) (m .history) ended h (statesFed cs) (verdictsGiven cs)
+      → Claim (verdictOf m) (startDelay m) (m .history) ended h (statesFed cs) (verdictsGiven cs)
   -- every beginning of such a list is such a list
   pub beginnings : (m : Start) (cs : List Call) (s : Session) (h : List ℕ) (ended : Bool) → Calls (sessionOf m) (m .history) cs s h ended
       → (j : ℕ) → Beginning (sessionOf m) (m .history) (take j cs)

@@ -15,10 +15,10 @@ use Rattle.session.specs.Session.{Effect, opening, feeding, closing}
 
 -- a formula with its verdicts on a trace as binary digits, tick 0 first; a length v with its parts; a session over a table, fed two
 -- blocks and closed, with the count, the first word and the states kept of each feed, and the count and the first word of the close
-pub data Row : Type 0 where
-  verdicts : Formula → List ℕ → ℕ → Row
-  splits : ℕ → List ℕ → Row
-  streamed : Table → List ℕ → List ℕ → List ℕ → Row
+pub data MarkedRow : Type 0 where
+  verdicts : Formula → List ℕ → ℕ → MarkedRow
+  splits : ℕ → List ℕ → MarkedRow
+  streamed : Table → List ℕ → List ℕ → List ℕ → MarkedRow
 
 -- the verdicts of the first k ticks as binary digits
 abbrev pub verdictDigits : ℕ → Formula → List ℕ → ℕ
@@ -26,25 +26,25 @@ verdictDigits zero f xs = 0
 verdictDigits (suc k) f xs = 2 * verdictDigits k f xs + digit (holds f xs k)
 
 -- what the three calls of a session row answer and leave, on buffers of zeros
-abbrev pub told : Effect → ℕ → List ℕ
-told e kept = e .answer .count ∷ getD (e .out) 0 0 ∷ take kept (e .history)
+abbrev pub observed : Effect → ℕ → List ℕ
+observed e kept = e .answer .count ∷ getD (e .out) 0 0 ∷ take kept (e .history)
 
 abbrev pub stream : Session → List ℕ → List ℕ → List ℕ
 stream s a b =
     let first : Effect = feeding s a (replicate historyWords 0) (replicate scratchWords 0) (replicate feedWords 0) in
     let second : Effect = feeding (first .answer .session) b (first .history) (replicate scratchWords 0) (replicate feedWords 0) in
     let last : Effect = closing (second .answer .session) (second .history) (replicate scratchWords 0) (replicate closeWords 0) in
-    told first 3 ++ told second 3 ++ told last 0
+    observed first 3 ++ observed second 3 ++ observed last 0
 
-abbrev pub computed : Row → List ℕ
+abbrev pub computed : MarkedRow → List ℕ
 computed (verdicts f xs n) = verdictDigits (length xs) f xs ∷ []
 computed (splits v ks) = parts v
 computed (streamed t a b ns) = stream (opening t 0 .session) a b
 
-abbrev pub printed : Row → List ℕ
-printed (verdicts f xs n) = n ∷ []
-printed (splits v ks) = ks
-printed (streamed t a b ns) = ns
+abbrev pub stated : MarkedRow → List ℕ
+stated (verdicts f xs n) = n ∷ []
+stated (splits v ks) = ks
+stated (streamed t a b ns) = ns
 
 abbrev pub P : List ℕ
 P = 2 ∷ 2 ∷ 1 ∷ 0 ∷ 2 ∷ 3 ∷ 0 ∷ 0 ∷ []
@@ -65,8 +65,8 @@ finallyP = record {
   «rule_count» = 1;
 }
 
-abbrev pub rows : List Row
-rows =
+abbrev pub markedRows : List MarkedRow
+markedRows =
     verdicts (F 1 3 p) P 0b11111000
     ∷ verdicts (G 1 2 q) P 0b00010001
     ∷ verdicts (U 0 3 q p) P 0b11101100

@@ -1,2 +1,4 @@
-pub mod Words
-pub mod Sweeps
+-- words of a column moved down
+mod Words
+-- sweeps over a register with its column moved down
+mod Sweeps

@@ -16,7 +16,7 @@ use Rattle.lists.proofs.Tests.{lt-or-le}
 use Rattle.table.specs.Nodes.{opOf, usesOf}
 use Rattle.table.specs.declared.Node.{Node}
 use Rattle.needed.specs.Marks.{hasOperand, mark}
-use Rattle.needed.specs.Steps.{markNode, markOperand, markOperands}
+use Rattle.needed.specs.Code.Steps.{markNode, markOperand, markOperands}
 
 -- ---- one mark
 pub bit-is : (ms k : ℕ) → eqb (ms / 2 ^ k % 2) 1 ≡ bit ms k

@@ -1,6 +1,6 @@
 -- the bits of marks
 pub mod Bits
 -- the loop from the last node to the first
-pub mod Marking
+mod Marking
 -- what is marked, and why: what callers use
 pub mod Marked

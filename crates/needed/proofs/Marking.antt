@@ -11,7 +11,7 @@ use Rattle.lists.proofs.Bits.{number-is}
 use Rattle.table.specs.Nodes.{noNode}
 use Rattle.table.specs.declared.Node.{Node}
 use Rattle.needed.specs.Marks.{hasOperand, isNeeded, needed}
-use Rattle.needed.specs.Steps.{markNode}
+use Rattle.needed.specs.Code.Steps.{markNode}
 use Rattle.needed.proofs.Bits.{node-bit}
 
 module _ (seed : ℕ) (ns : List Node) where

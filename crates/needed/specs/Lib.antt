@@ -1,4 +1,4 @@
 -- marks, and what is needed: what callers use
 pub mod Marks
--- what the functions of this crate do to marks
-pub mod Steps
+-- what only the steps of the code are about: no other crate names it
+pub mod Code

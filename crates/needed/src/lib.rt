@@ -7,7 +7,7 @@ ghost use lib.ListN.{take};
 ghost use Rattle.limits.specs.Limits.{maxNodes};
 ghost use Rattle.lists.specs.Bits.{bit};
 ghost use Rattle.needed.specs.Marks.{mark, needed};
-ghost use Rattle.needed.specs.Steps.{markOperand, markOperands, markNode};
+ghost use Rattle.needed.specs.Code.Steps.{markOperand, markOperands, markNode};
 
 // The marks with one more at place `at`; from place 64 on there is none.
 pub fn mark(marks: u64, at: usize) -> u64

@@ -10,8 +10,7 @@ use lib.ListN.{length}
 use Rattle.lists.specs.Choice.{pick}
 use Rattle.lists.proofs.Tests.{true-left, true-right, _also_, same-test, leb-iff}
 use Rattle.interval.specs.Parts.{badInterval}
-use Rattle.operators.specs.Operators.{oneFits, twoFit, fourFit}
-use Rattle.operators.specs.Steps.{Operand}
+use Rattle.operators.specs.Operators.{oneFits, twoFit, fourFit, Operand}
 
 -- ---- by a test, another list or the list as it was
 pub stays : (xs ys : List ℕ) {t : Bool} → t ≡ false → xs ≡ pick t ys xs

@@ -8,6 +8,7 @@ use native.Mathlib.Nat.{add-zero}
 use native.Mathlib.Omega.{arith}
 use borrow.Rule.Slice.PartMut.{putMid, midOf}
 use lib.ListN.{length}
+use Rattle.operators.specs.Operators.{Operand}
 use Rattle.lists.specs.Bits.{bitAt}
 use Rattle.lists.proofs.Columns.{bitAt-past}
 use Rattle.column.specs.Column.{register, lay, Laid, Turned}
@@ -16,7 +17,6 @@ use Rattle.column.proofs.Parts.{part-laid, part-turned, laid-length}
 use Rattle.pair.specs.Pair.{both, IntoSecond}
 use Rattle.pair.proofs.Pairs.{part-pair}
 use Rattle.windows.proofs.Lays.{held}
-use Rattle.operators.specs.Steps.{Operand}
 
 -- the part from the register at a to the end of that at b
 pub lent : (op : List ℕ → List ℕ → ℕ → Bool) {a b m : ℕ} {xs : List ℕ} (ys : List ℕ) → Operand a b m xs

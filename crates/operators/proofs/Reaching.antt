@@ -18,12 +18,10 @@ use Rattle.interval.specs.Parts.{badInterval, parts}
 use Rattle.column.specs.Column.{register, lay, Laid}
 use Rattle.column.proofs.Registers.{length-register, length-lay, lay-lay, register-apart}
 use Rattle.column.proofs.Parts.{register-part, part-laid, laid-length}
-use Rattle.windows.specs.Windows.{third, misplaced, all, used, untilLater, releaseLater}
-use Rattle.windows.specs.Steps.{Three}
+use Rattle.windows.specs.Windows.{third, misplaced, Three, all, used, untilLater, releaseLater}
 use Rattle.windows.proofs.Lays.{lay-swap, used-length, used-swap}
 use Rattle.windows.proofs.Results.{three-fits}
-use Rattle.operators.specs.Operators.{worked, untilLaid, releaseLaid}
-use Rattle.operators.specs.Steps.{Operand}
+use Rattle.operators.specs.Operators.{worked, untilLaid, releaseLaid, Operand}
 use Rattle.operators.proofs.Fits.{Four}
 use Rattle.operators.proofs.Laws.{laid-bits}
 

@@ -1,8 +1,9 @@
 -- What each operator leaves in a list of words: the registers of its operands at a and c, its result's at b, m words of each.
 use mathlib.Core.Bool.{Bool, _&&_, _||_}
 use mathlib.Core.List.{List}
-use Prim.Native.Nat.{ℕ, _+_, _-_, _*_, min}
+use Prim.Native.Nat.{ℕ, _+_, _-_, _*_, _≤_, min}
 use lib.Dec.{leb}
+use lib.ListN.{length}
 use Rattle.limits.specs.Limits.{registerWords}
 use Rattle.lists.specs.Bits.{bitAt, pack, below}
 use Rattle.mltl.specs.Mltl.{eventually, opposite}
@@ -16,6 +17,11 @@ use Rattle.windows.specs.Windows.{untilOf, releaseOf, used}
 -- ---- which places fit: each register ends before the result's begins, and that one within the n words of the list
 abbrev pub oneFits : ℕ → ℕ → ℕ → ℕ → Bool
 oneFits a b m n = leb (a + m) b && leb (b + m) n
+
+-- the same as a statement
+pub record Operand (a b m : ℕ) (xs : List ℕ) : Type 0 where
+  pub before : a + m ≤ b
+  pub enough : b + m ≤ length xs
 
 abbrev pub twoFit : ℕ → ℕ → ℕ → ℕ → ℕ → Bool
 twoFit a c b m n = oneFits a b m n && leb (c + m) b

@@ -1,5 +1,5 @@
-// The operators on registers of one slice, m words each: those of the operands at a and c, that of the result at b. A slice in which they would overlap or
-// not fit, or for F, G, U and R an interval that is refused, leaves everything as it was.
+// The operators on registers of one slice, m words each: those of the operands at a and c, that of the result at b. Where they would overlap or not fit, or
+// the interval of F, G, U or R is refused, the slice stays as it was.
 ghost use mathlib.Core.Path.{_≡_};
 ghost use mathlib.Core.Bool.{_&&_, _||_, not};
 ghost use mathlib.Core.List.{_++_};
@@ -11,8 +11,7 @@ ghost use Rattle.lists.specs.Choice.{pick};
 ghost use Rattle.interval.specs.Parts.{badInterval};
 ghost use Rattle.column.specs.Column.{register, Laid};
 ghost use Rattle.pair.specs.Pair.{both};
-ghost use Rattle.operators.specs.Operators.{oneFits, twoFit, fourFit, signalLaid, fillLaid, notLaid, andLaid, orLaid, someLaid, allLaid, untilLaid, releaseLaid};
-ghost use Rattle.operators.specs.Steps.{Operand};
+ghost use Rattle.operators.specs.Operators.{oneFits, twoFit, fourFit, signalLaid, fillLaid, notLaid, andLaid, orLaid, someLaid, allLaid, untilLaid, releaseLaid, Operand};
 
 // ---- tests
 

@@ -1,1 +1,2 @@
+-- two registers in one list, at 0 and at d
 pub mod Pair

@@ -14,7 +14,8 @@ use lib.Seq.{sets, sets-eq, take-append-seam, length-sets, take-suc, length-take
 use Rattle.io.specs.Digits.{digits, Fewest, glyph}
 use Rattle.lists.proofs.Tests.{lt-or-le, same-test as equal-tests, ltb-iff, eqb-iff}
 use Rattle.lists.proofs.Sequences.{sets-append, ticks-snoc, length-ticks}
-use Rattle.rows.specs.Rows.{Put, placesFrom, decimal, row, rowsFrom, front, ended, Fronted, fitting}
+use Rattle.rows.specs.Rows.{Put, placesFrom, decimal, row, rowsFrom, fitting}
+use Rattle.rows.specs.Code.Steps.{front, rowEnd, Fronted}
 use Rattle.lists.specs.Choice.{pick}
 use Rattle.lists.specs.Sequence.{ticks}
 use Rattle.lists.specs.Bits.{bitAt, digit}
@@ -131,7 +132,7 @@ sum-is a b h k =
     ∙ rw (e, none-high (a / 10) (b / 10) (a % 10) (b % 10), carry (a / 10) (b / 10) (a % 10) (b % 10), carried (a / 10) (b / 10) (a % 10) (b % 10)))
 
 -- ---- a row in two parts
-row-is : (name : List ℕ) (tick v : ℕ) → tick < 2 ^ 64 → row name tick v ≡ ended (front name tick) tick v
+row-is : (name : List ℕ) (tick v : ℕ) → tick < 2 ^ 64 → row name tick v ≡ rowEnd (front name tick) tick v
 unfolding row
 row-is name tick v h =
     let xs = pick (ltb tick 10) [] (decimal (tick / 10)) in
@@ -167,11 +168,11 @@ rows-snoc name tick vs v = rows-append name tick vs (v ∷ []) ∙ rw (append-ni
 
 -- one row more in the buffer
 pub rows-more : (name old mid new : List ℕ) (tick at n i : ℕ) (f : ℕ → Bool) → tick + i < 2 ^ 64 → Put old 0 (rowsFrom name tick (ticks f i)) mid at
-    → (xs : List ℕ) (v : ℕ) → xs ≡ front name (tick + i) → v ≡ digit (f i) → Put mid at (ended xs (tick + i) v) new n
+    → (xs : List ℕ) (v : ℕ) → xs ≡ front name (tick + i) → v ≡ digit (f i) → Put mid at (rowEnd xs (tick + i) v) new n
     → Put old 0 (rowsFrom name tick (ticks f (i + 1))) new n
 rows-more name old mid new tick at n i f h p xs v x y q =
     let e : ticks f (i + 1) ≡ ticks f i ++ (f i ∷ []) = rw (add-one i) (ticks-snoc f i) in
-    let w : rowsFrom name tick (ticks f (i + 1)) ≡ rowsFrom name tick (ticks f i) ++ ended (front name (tick + i)) (tick + i) (digit (f i)) =
+    let w : rowsFrom name tick (ticks f (i + 1)) ≡ rowsFrom name tick (ticks f i) ++ rowEnd (front name (tick + i)) (tick + i) (digit (f i)) =
     rw (e, rows-snoc name tick (ticks f i) (f i), length-ticks f i, row-is name (tick + i) (digit (f i)) h) in
     rw (w, ← x, ← y) (put-then p q)
 

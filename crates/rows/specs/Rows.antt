@@ -2,9 +2,9 @@
 use mathlib.Core.Path.{_≡_}
 use mathlib.Core.Bool.{Bool, _||_}
 use mathlib.Core.List.{List, [], _∷_, _++_}
-use Prim.Native.Nat.{ℕ, zero, suc, _+_, _*_, _/_, _%_, _^_, _≤_}
+use Prim.Native.Nat.{ℕ, zero, suc, _+_, _*_, _^_, _≤_}
 use lib.Dec.{ltb}
-use lib.ListN.{length, take}
+use lib.ListN.{length}
 use lib.Seq.{sets}
 use Rattle.limits.specs.Limits.{closeWords}
 use Rattle.io.specs.Digits.{digits}
@@ -30,8 +30,8 @@ unfoldable pub rowsFrom : List ℕ → ℕ → List Bool → List ℕ
 rowsFrom name tick [] = []
 rowsFrom name tick (v ∷ vs) = row name tick (digit v) ++ rowsFrom name (tick + 1) vs
 
-abbrev pub rowsOf : ℕ → ℕ → List Bool → List ℕ
-rowsOf name = rowsFrom (decimal name)
+abbrev pub rowsNamed : ℕ → ℕ → List Bool → List ℕ
+rowsNamed name = rowsFrom (decimal name)
 
 -- the most rows of one text: those of a close
 abbrev pub maxRows : ℕ
@@ -43,7 +43,7 @@ maxTick = 18446744073709551615
 
 -- the rows of the first `count` verdicts of some words; none where they would not fit
 abbrev pub fitting : ℕ → ℕ → List ℕ → ℕ → List ℕ
-fitting name tick words count = pick (ltb maxRows count || ltb maxTick (tick + count)) [] (rowsOf name tick (ticks (bitAt words) count))
+fitting name tick words count = pick (ltb maxRows count || ltb maxTick (tick + count)) [] (rowsNamed name tick (ticks (bitAt words) count))
 
 -- ---- `book NUMBER RECORD`, `bad line N`, `feed NUMBER`
 abbrev pub bookLine : ℕ → ℕ → List ℕ
@@ -54,21 +54,6 @@ badLine n = 98 ∷ 97 ∷ 100 ∷ 32 ∷ 108 ∷ 105 ∷ 110 ∷ 101 ∷ 32 ∷ 
 
 abbrev pub feedLine : ℕ → List ℕ
 feedLine number = 102 ∷ 101 ∷ 101 ∷ 100 ∷ 32 ∷ (decimal number ++ (10 ∷ []))
-
--- ---- a row in two parts
--- the name, a space, and all digits of the tick but the last
-abbrev pub front : List ℕ → ℕ → List ℕ
-front name tick = name ++ (32 ∷ pick (ltb tick 10) [] (decimal (tick / 10)))
-
--- the last digit of the tick, the verdict, and the line's end
-abbrev pub ended : List ℕ → ℕ → ℕ → List ℕ
-ended xs tick verdict = xs ++ ((48 + tick % 10) ∷ 32 ∷ (48 + verdict) ∷ 10 ∷ [])
-
--- the first k bytes of a buffer are the front of the row of a tick
-pub record Fronted (name : List ℕ) (tick : ℕ) (buffer : List ℕ) (k : ℕ) : Type 0 where
-  pub bytes : take k buffer ≡ front name tick
-  pub short : k ≤ 28
-  pub within : 32 ≤ length buffer
 
 -- ---- xs was put into old at a place: what the buffer holds now, and the place after it
 pub record Put (old : List ℕ) (at : ℕ) (xs : List ℕ) (new : List ℕ) (next : ℕ) : Type 0 where

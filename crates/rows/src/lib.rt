@@ -9,7 +9,8 @@ ghost use Rattle.lists.specs.Choice.{pick};
 ghost use Rattle.lists.specs.Bits.{bitAt, digit};
 ghost use Rattle.lists.specs.Sequence.{ticks};
 use limits::CLOSE_WORDS;
-ghost use Rattle.rows.specs.Rows.{Put, decimal, rowsFrom, ended, Fronted, fitting, bookLine, badLine, feedLine};
+ghost use Rattle.rows.specs.Rows.{Put, decimal, rowsFrom, fitting, bookLine, badLine, feedLine};
+ghost use Rattle.rows.specs.Code.Steps.{rowEnd, Fronted};
 
 // The most rows of one text, each of 32 bytes at most: those of a close.
 const MAX_ROWS: usize = 64 * CLOSE_WORDS;
@@ -83,7 +84,7 @@ fn put_each(out: &mut [u8], name: &[u8], tick: u64, words: &[u64], count: usize)
 // A row: its front, the tick's last digit, and the verdict.
 fn put_row(out: &mut [u8], at: usize, front: &[u8], tick: u64, verdict: u8) -> usize
     requires { ⌜ (at + 32 ≤ length (now out)) × (length (now front) ≤ 28) × (verdict < 2) ⌝ }
-    ensures { λ r. ⌜ Put (now (out .entry)) at (ended (now (front .entry)) tick verdict) (now (out .exit)) r ⌝ }
+    ensures { λ r. ⌜ Put (now (out .entry)) at (rowEnd (now (front .entry)) tick verdict) (now (out .exit)) r ⌝ }
     ensures { λ r. ⌜ r ≤ at + 32 ⌝ }
 {
     let a = put(out, at, front);

@@ -20,12 +20,12 @@ use Rattle.table.specs.declared.RuleDelay.{RuleDelay}
 use Rattle.table.specs.Nodes.{formulaAt, ruleAt}
 use Rattle.table.specs.Sound.{isSound, delayNumber, ruleDelay}
 use Rattle.table.proofs.Soundness.{sound-iff, watched-short}
-use Rattle.verdict.specs.Verdict.{told, cleared, ready, Judged}
+use Rattle.verdict.specs.Verdict.{withVerdicts, cleared, ready, Judged}
 use Rattle.verdict.proofs.Answers.{ready-sound}
 use Rattle.session.specs.declared.Session.{Session}
 use Rattle.session.specs.declared.Opening.{Opening}
 use Rattle.session.specs.Session.{Effect, noSession, opening, refused, unfit, delayOf, withSeen, verdictWords, feedRows, feedNumber, fed, feeding, closeRows, closeNumber, closed, closing}
-use Rattle.session.specs.Ready.{Writes, Fit, Feeds, Closes}
+use Rattle.session.specs.Code.Steps.{Writable, Fit, Feedable, Closable}
 
 -- ---- open
 module _ (t : Table) (r : ℕ) {d : RuleDelay} (e : d ≡ ruleDelay t r) where
@@ -142,15 +142,15 @@ module _ (p out mid : List ℕ) (m w : ℕ) (long : length p ≡ w) (room : w �
       ∙ sym (append-assoc p (replicate (m - length p) 0) (drop m out))
 
 -- the evaluator runs on a sound table
-pub writes-ready : (t : Table) (place : ℕ) (trace : List ℕ) (count m : ℕ) (scratch out : List ℕ) → Writes t place trace count m scratch out
+pub writes-ready : (t : Table) (place : ℕ) (trace : List ℕ) (count m : ℕ) (scratch out : List ℕ) → Writable t place trace count m scratch out
     → ready t place trace count scratch out ≡ true
 writes-ready t place trace count m scratch out w =
     ready-sound t place trace count scratch out (w .sound .places) (w .sound) (w .node) (w .short) (w .ticks) (w .scratch-words)
     (let r = w .room in let o = w .out-words in omega arith)
 
 pub judged-words : {t : Table} {place : ℕ} {trace : List ℕ} {count m : ℕ} {scratch out : List ℕ} {b : Bool} {scratch′ out′ : List ℕ}
-    → Writes t place trace count m scratch out → Judged t place trace count scratch out b scratch′ out′
-    → (scratch′ ≡ cleared scratch) × (out′ ≡ told (formulaAt (t .nodes) place) trace count out)
+    → Writable t place trace count m scratch out → Judged t place trace count scratch out b scratch′ out′
+    → (scratch′ ≡ cleared scratch) × (out′ ≡ withVerdicts (formulaAt (t .nodes) place) trace count out)
 judged-words {t} {place} {trace} {count} {m} {scratch} {out} w j =
     let r = writes-ready t place trace count m scratch out w in
     (rw r at (j .clears), rw r at (j .tells))
@@ -174,7 +174,7 @@ pub lent-part : (n : ℕ) (xs : List ℕ) → take (n - 0) xs ≡ take n xs
 lent-part n xs = let e : n - 0 ≡ n = omega arith in ap (λ (i : ℕ). take i xs) e
 
 -- ---- an accepted feed: hh states are kept, the block follows, and `left` are kept afterwards
-module _ {s : Session} {d : ℕ} {block h x o : List ℕ} (f : Feeds s d block h x o) where
+module _ {s : Session} {d : ℕ} {block h x o : List ℕ} (f : Feedable s d block h x o) where
   abbrev k : ℕ
   k = length block
 
@@ -191,7 +191,7 @@ module _ {s : Session} {d : ℕ} {block h x o : List ℕ} (f : Feeds s d block h
         let e = fit-short (f .fit) in
         length-append (take hh h) block ∙ ap (λ (i : ℕ). i + k) (length-take hh h ∙ omega arith)
 
-    pub feed-writes : {older : List ℕ} → older ≡ take hh h → Writes (s .table) place (older ++ block) (a - b) 16 x o
+    pub feed-writes : {older : List ℕ} → older ≡ take hh h → Writable (s .table) place (older ++ block) (a - b) 16 x o
     feed-writes e =
         let n = f .few in
         let g = fit-short (f .fit) in
@@ -215,12 +215,12 @@ module _ {s : Session} {d : ℕ} {block h x o : List ℕ} (f : Feeds s d block h
         rw (ex, eo, e, eh, m, p, q, r, t, f .fit .delay)
 
 -- ---- an accepted close
-module _ {s : Session} {d : ℕ} {h x o : List ℕ} (f : Closes s d h x o) where
+module _ {s : Session} {d : ℕ} {h x o : List ℕ} (f : Closable s d h x o) where
   abbrev spot : ℕ
   spot = ruleAt (s .table) (s .rule) .watched
 
   module _ {count : ℕ} (p : count ≡ min (s .seen) d) where
-    pub close-writes : {older none : List ℕ} → older ≡ take count h → none ≡ [] → Writes (s .table) spot (older ++ none) count 64 x o
+    pub close-writes : {older none : List ℕ} → older ≡ take count h → none ≡ [] → Writable (s .table) spot (older ++ none) count 64 x o
     close-writes e z =
         let g = fit-short (f .fit) in
         let w = f .fit .history-words in

@@ -1,3 +1,6 @@
+-- effects by their number: a call whose number is 0 is accepted, and any other refused
 pub mod Effects
-pub mod History
+-- history while it is renewed: its states are moved down, and the block's follow
+mod History
+-- what the parts of open, feed and close answer, put together
 pub mod Answers

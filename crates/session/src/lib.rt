@@ -8,7 +8,7 @@ ghost use Rattle.lists.specs.Choice.{first};
 ghost use Rattle.table.specs.Nodes.{formulaAt};
 ghost use Rattle.verdict.specs.Verdict.{cleared};
 ghost use Rattle.session.specs.Session.{Effect, sessionWith, noSession, withSeen, verdictWords, opening, feedRows, fed, feeding, closeRows, closed, closing};
-ghost use Rattle.session.specs.Ready.{Writes, Feeds, Closes};
+ghost use Rattle.session.specs.Code.Steps.{Writable, Feedable, Closable};
 use limits::CLOSE_WORDS;
 use limits::FEED_WORDS;
 use limits::HISTORY_WORDS;
@@ -175,7 +175,7 @@ fn write_verdicts(
     scratch: &mut [u64],
     out: &mut [u64],
 )
-    requires { ⌜ Writes t place (now older ++ now newer) count m (now scratch) (now out) ⌝ }
+    requires { ⌜ Writable t place (now older ++ now newer) count m (now scratch) (now out) ⌝ }
     ensures { λ _. ⌜ (now (scratch .exit) ≡ cleared (now (scratch .entry))) × (now (out .exit) ≡ verdictWords m count (formulaAt (t .nodes) place) (now (older .entry) ++ now (newer .entry)) (now (out .entry))) ⌝ }
 {
     verdict::judge(t, place, older, newer, count, scratch, out);
@@ -212,7 +212,7 @@ fn advance(
     scratch: &mut [u64],
     out: &mut [u64],
 ) -> Answer
-    requires { ⌜ Feeds s d (now block) (now history) (now scratch) (now out) ⌝ }
+    requires { ⌜ Feedable s d (now block) (now history) (now scratch) (now out) ⌝ }
     ensures { λ r. ⌜ record { answer = r; history = now (history .exit); scratch = now (scratch .exit); out = now (out .exit) } ≡ fed s (now (block .entry)) (now (history .entry)) (now (scratch .entry)) (now (out .entry)) ⌝ }
 {
     let t = s.table;
@@ -243,7 +243,7 @@ fn advance(
 
 // A close that is accepted; d is the delay.
 fn finish(s: Session, d: usize, history: &[u32], scratch: &mut [u64], out: &mut [u64]) -> Answer
-    requires { ⌜ Closes s d (now history) (now scratch) (now out) ⌝ }
+    requires { ⌜ Closable s d (now history) (now scratch) (now out) ⌝ }
     ensures { λ r. ⌜ record { answer = r; history = now (history .entry); scratch = now (scratch .exit); out = now (out .exit) } ≡ closed s (now (history .entry)) (now (scratch .entry)) (now (out .entry)) ⌝ }
 {
     let t = s.table;

@@ -1,1 +1,2 @@
+-- signals: bit i of a state is signal i
 pub mod Signal

@@ -17,8 +17,8 @@ use Rattle.table.specs.Nodes.{noNode}
 use Rattle.simplify.specs.declared.Build.{Build}
 use Rattle.simplify.specs.declared.Outcome.{Outcome}
 use Rattle.simplify.specs.declared.Outcome.the-variants.{At, Put, Stay}
-use Rattle.simplify.specs.Law.{law}
-use Rattle.simplify.specs.Passes.{applied, enter, enterAt, find, keepBy, keepOf, noBuild, nodesOf, placesOf, pushNode, pushPlace, renamed, stepOf}
+use Rattle.simplify.specs.Code.Law.{law}
+use Rattle.simplify.specs.Code.Passes.{applied, enter, enterAt, find, keepBy, keepOf, noBuild, nodesOf, placesOf, pushNode, pushPlace, renamed, stepOf}
 use Rattle.simplify.proofs.Chains.{AllFit, fit-fewer}
 use Rattle.simplify.proofs.Model.{Lists, appliedLists, entered, keepLists, noLists, rebuilt, stepLists, swept}
 use Rattle.simplify.proofs.Rebuilding.{Fine, all-rebuilt, fine-fewer}

@@ -11,8 +11,8 @@ use Rattle.table.specs.Sound.{Field, NodeFits}
 use Rattle.table.specs.declared.Node.{Node}
 use Rattle.table.specs.declared.Uses.{Uses}
 use Rattle.simplify.specs.Fits.{op}
-use Rattle.simplify.specs.Law.{constant, lawNot, lawOne, lawTwo, lawJoin, lawAs}
-use Rattle.simplify.specs.Passes.{renamed}
+use Rattle.simplify.specs.Code.Law.{constant, lawNot, lawOne, lawTwo, lawJoin, lawAs}
+use Rattle.simplify.specs.Code.Passes.{renamed}
 use Rattle.simplify.proofs.Better.{overPlaces}
 
 -- ---- one field

@@ -10,7 +10,7 @@ use Rattle.lists.proofs.Tests.{and-right, _also_}
 use Rattle.table.specs.Nodes.{Op, Unknown, Signal, Top, Bottom, Not, And, Or, Finally, Globally, Until, Release, opOf}
 use Rattle.table.specs.declared.Node.{Node}
 use Rattle.simplify.specs.Fits.{op, Constant, Now, Inside, Nested, LawFits, not-not, F-now, G-now, U-now, R-now, F-F, G-G, F-and-F, G-or-G, F-or-F, G-and-G, not-constant, and-constant, or-constant, and-same, or-same, F-false, U-false, G-true, R-true}
-use Rattle.simplify.specs.Law.{is, overOne, isInside, lawOne, lawTwo, lawAs}
+use Rattle.simplify.specs.Code.Law.{is, overOne, isInside, lawOne, lawTwo, lawAs}
 use Rattle.simplify.specs.declared.Outcome.the-variants.{Stay}
 use Rattle.simplify.proofs.Cases.{both, is-false}
 use Rattle.simplify.proofs.Staying.{NotFree, OneFree, TwoFree, SideFree, JoinFree, not-free, one-free, two-free, join-free}

@@ -10,8 +10,8 @@ use lib.ListN.{drop, drop-of-length-le, length}
 use lib.Seq.{drop-cons}
 use Rattle.table.specs.declared.Node.{Node}
 use Rattle.table.specs.Nodes.{noNode}
-use Rattle.simplify.specs.Law.{nodeIn, sameNode}
-use Rattle.simplify.specs.Passes.{find}
+use Rattle.simplify.specs.Code.Law.{nodeIn, sameNode}
+use Rattle.simplify.specs.Code.Passes.{find}
 use Rattle.simplify.proofs.Cases.{both, by-test}
 
 same-out : (a b : Node) → sameNode a b ≡ true → a ≡ b

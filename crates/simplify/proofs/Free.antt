@@ -8,8 +8,8 @@ use lib.Dec.{eqb}
 use borrow.Author.Tests.{eqb-true, eq-eqb}
 use Rattle.table.specs.Nodes.{Op, Unknown, Signal, Top, Bottom, Not, And, Or, Finally, Globally, Until, Release, opOf, usesOf}
 use Rattle.table.specs.declared.Node.{Node}
-use Rattle.simplify.specs.Law.{is, overOne, lawNot, lawOne, lawTwo, lawJoin, lawAs}
-use Rattle.simplify.specs.Passes.{renamed}
+use Rattle.simplify.specs.Code.Law.{is, overOne, lawNot, lawOne, lawTwo, lawJoin, lawAs}
+use Rattle.simplify.specs.Code.Passes.{renamed}
 use Rattle.simplify.specs.declared.Outcome.the-variants.{Stay}
 use Rattle.simplify.proofs.Cases.{both}
 use Rattle.simplify.proofs.Staying.{SideFree, not-free, one-free, two-free, join-free}

@@ -11,10 +11,10 @@ use borrow.Author.Tests.{eqb-true, leb-true}
 use Rattle.lists.proofs.Tests.{or-split}
 use Rattle.mltl.specs.Mltl.{Formula, const, neg, and, or, F, G, U, R, delay}
 use Rattle.mltl.proofs.Laws.{Same, _then_, not-not, not-const, F-now, G-now, U-now, R-now, F-F, G-G, F-and, F-or, G-and, G-or, F-false, G-true, U-false, R-true, and-true, and-false, and-self, and-comm, or-true, or-false, or-self, or-comm}
-use Rattle.table.specs.Nodes.{Op, Unknown, Signal, Top, Bottom, Not, And, Or, Finally, Globally, Until, Release, opOf, formulaAs, formulaOf}
+use Rattle.table.specs.Nodes.{Op, Unknown, Signal, Top, Bottom, Not, And, Or, Finally, Globally, Until, Release, opOf, formulaAs, formulaOver}
 use Rattle.table.specs.declared.Node.{Node}
 use Rattle.simplify.specs.Fits.{op}
-use Rattle.simplify.specs.Law.{is, overOne, leftStays, lawNot, lawOne, lawTwo, lawJoin, lawAs}
+use Rattle.simplify.specs.Code.Law.{is, overOne, leftStays, lawNot, lawOne, lawTwo, lawJoin, lawAs}
 use Rattle.simplify.specs.declared.Outcome.{Outcome}
 use Rattle.simplify.specs.declared.Outcome.the-variants.{Stay, At, Put}
 use Rattle.simplify.proofs.Cases.{by-test, both}
@@ -27,10 +27,10 @@ formulaIn fs i = getD fs i (const false)
 abbrev pub value : List Formula → Formula → Outcome → Formula
 value fs f Stay = f
 value fs f (At p) = formulaIn fs p
-value fs f (Put m) = formulaOf fs m
+value fs f (Put m) = formulaOver fs m
 
 -- a node of kind k
-is-as : (fs : List Formula) (k : ℕ) (m : Node) → is k m ≡ true → formulaOf fs m ≡ formulaAs (opOf k) m (formulaIn fs (m .left)) (formulaIn fs (m .right))
+is-as : (fs : List Formula) (k : ℕ) (m : Node) → is k m ≡ true → formulaOver fs m ≡ formulaAs (opOf k) m (formulaIn fs (m .left)) (formulaIn fs (m .right))
 is-as fs k m h = ap (λ j. formulaAs (opOf j) m (formulaIn fs (m .left)) (formulaIn fs (m .right))) (eqb-true (m .kind) k h)
 
 -- the laws of F, and of G
@@ -120,14 +120,14 @@ module _ {neutral absorbing inner outer : ℕ} {T : Formula → Formula → Form
     (j : Join neutral absorbing inner outer T I O) (fs : List Formula) (l r : Node)
   where
     over : (k : ℕ) (W : ℕ → ℕ → Formula → Formula) → ((m : Node) (x y : Formula) → formulaAs (opOf k) m x y ≡ W (m .lo) (m .hi) x) → overOne k l r ≡ true
-        → (formulaOf fs l ≡ W (l .lo) (l .hi) (formulaIn fs (l .left))) × (formulaOf fs r ≡ W (r .lo) (r .hi) (formulaIn fs (l .left)))
+        → (formulaOver fs l ≡ W (l .lo) (l .hi) (formulaIn fs (l .left))) × (formulaOver fs r ≡ W (r .lo) (r .hi) (formulaIn fs (l .left)))
     over k W w h =
         let a = both _ _ h in
         let b = both _ _ (a .0) in
         let e : l .left ≡ r .left = eqb-true _ _ (a .1) in
         (is-as fs k l (b .0) ∙ w _ _ _, is-as fs k r (b .1) ∙ w _ _ _ ∙ ap (λ i. W (r .lo) (r .hi) (formulaIn fs i)) (sym e))
 
-    stays-meant : leftStays neutral absorbing inner outer l r ≡ true → Same (T (formulaOf fs l) (formulaOf fs r)) (formulaOf fs l)
+    stays-meant : leftStays neutral absorbing inner outer l r ≡ true → Same (T (formulaOver fs l) (formulaOver fs r)) (formulaOver fs l)
     stays-meant h =
         ⊎-elim (λ h. ⊎-elim (λ h. ⊎-elim
         (λ x. rw (is-as fs neutral r x) (j .is-neutral _ _ _ _))
@@ -139,7 +139,7 @@ module _ {neutral absorbing inner outer : ℕ} {T : Formula → Formula → Form
         (or-split _ _ h)
 
 -- a node n over the operands l and r
-module _ (fs : List Formula) (n l r : Node) (el : formulaIn fs (n .left) ≡ formulaOf fs l) (er : formulaIn fs (n .right) ≡ formulaOf fs r)
+module _ (fs : List Formula) (n l r : Node) (el : formulaIn fs (n .left) ≡ formulaOver fs l) (er : formulaIn fs (n .right) ≡ formulaOver fs r)
     (p : n .lo ≤ n .hi) (q : l .lo ≤ l .hi)
   where
     abbrev a : Formula
@@ -219,5 +219,5 @@ module _ (fs : List Formula) (n l r : Node) (el : formulaIn fs (n .left) ≡ for
     meant-as Until e = two-meant binary-U
     meant-as Release e = two-meant binary-R
 
-    pub meant : Better (formulaOf fs n) (value fs (formulaOf fs n) (lawAs n l r (op n)))
+    pub meant : Better (formulaOver fs n) (value fs (formulaOver fs n) (lawAs n l r (op n)))
     meant = meant-as (op n) refl

@@ -11,8 +11,8 @@ use Rattle.table.specs.declared.Node.{Node}
 use Rattle.table.specs.declared.Rule.{Rule}
 use Rattle.table.specs.declared.Table.{Table}
 use Rattle.needed.specs.Marks.{needed}
-use Rattle.simplify.specs.Law.{law}
-use Rattle.simplify.specs.Passes.{renamed, renamedRule, find, markWatched}
+use Rattle.simplify.specs.Code.Law.{law}
+use Rattle.simplify.specs.Code.Passes.{renamed, renamedRule, find, markWatched}
 use Rattle.simplify.specs.declared.Outcome.{Outcome}
 use Rattle.simplify.specs.declared.Outcome.the-variants.{Stay, At, Put}
 

@@ -11,13 +11,14 @@ use Rattle.lists.specs.Bits.{bit}
 use Rattle.lists.proofs.Tests.{lt-or-le}
 use Rattle.mltl.specs.Mltl.{delay}
 use Rattle.table.specs.declared.Node.{Node}
-use Rattle.table.specs.Nodes.{formulaAt, formulaOf, formulas, opOf, usesOf}
+use Rattle.table.specs.Nodes.{formulaAt, formulaOver, formulas, opOf, usesOf}
 use Rattle.table.specs.Sound.{Field, NodeFits}
 use Rattle.needed.proofs.Marked.{used-left, used-right}
+use Rattle.needed.specs.Marks.{hasOperand}
 use Rattle.simplify.specs.declared.Outcome.the-variants.{Stay}
-use Rattle.simplify.specs.Fits.{hasOperand, op}
-use Rattle.simplify.specs.Law.{law, nodeIn}
-use Rattle.simplify.specs.Passes.{renamed}
+use Rattle.simplify.specs.Fits.{op}
+use Rattle.simplify.specs.Code.Law.{law, nodeIn}
+use Rattle.simplify.specs.Code.Passes.{renamed}
 use Rattle.simplify.proofs.Better.{formula-agrees}
 use Rattle.simplify.proofs.Chains.{AllFit, unrolled}
 use Rattle.simplify.proofs.Fields.{law-agrees, renamed-fits}
@@ -77,7 +78,7 @@ module _ (ms : ℕ) (ns : List Node) (g : Good ns) (s : Lists) (k : Kept ms ns s
   formula-below zero i l a = absurd (omega arith)
   formula-below (suc m) i l a =
       let w = g .fits i (a .in-list) in
-      unrolled (s .nodes) fits (h i) ∙ ap (formulaOf (formulas (s .nodes))) (at-live i a)
+      unrolled (s .nodes) fits (h i) ∙ ap (formulaOver (formulas (s .nodes))) (at-live i a)
       ∙ sym (formula-agrees (nodeIn ns i) (h (nodeIn ns i .left)) (h (nodeIn ns i .right)) (op (nodeIn ns i)) _ _ _ _
       (λ u. sym (formula-below m (nodeIn ns i .left) (omega (arith, w .left .limited u)) (live-left i a u)))
       (λ u. sym (formula-below m (nodeIn ns i .right) (omega (arith, w .right .limited u)) (live-right i a u))))

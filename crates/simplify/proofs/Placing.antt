@@ -8,12 +8,12 @@ use lib.ListN.{getD, length}
 use lib.Dec.{eqb}
 use borrow.Author.Tests.{eqb-true}
 use Rattle.mltl.specs.Mltl.{Formula, const, delay}
-use Rattle.table.specs.Nodes.{Op, Unknown, Signal, Top, Bottom, Not, And, Or, Finally, Globally, Until, Release, opOf, usesOf, formulaAs, formulaOf}
+use Rattle.table.specs.Nodes.{Op, Unknown, Signal, Top, Bottom, Not, And, Or, Finally, Globally, Until, Release, opOf, usesOf, formulaAs, formulaOver}
 use Rattle.table.specs.Sound.{NodeFits}
 use Rattle.table.specs.declared.Node.{Node}
 use Rattle.table.specs.declared.Uses.{Uses}
 use Rattle.simplify.specs.Fits.{op}
-use Rattle.simplify.specs.Law.{is, nodeIn, merged, leftStays, law, lawNot, lawOne, lawTwo, lawJoin, lawAs}
+use Rattle.simplify.specs.Code.Law.{is, nodeIn, merged, leftStays, law, lawNot, lawOne, lawTwo, lawJoin, lawAs}
 use Rattle.simplify.specs.declared.Outcome.{Outcome}
 use Rattle.simplify.specs.declared.Outcome.the-variants.{Stay, At, Put}
 use Rattle.simplify.proofs.Cases.{by-test}
@@ -26,7 +26,7 @@ module _ (ns : List Node) (fits : AllFit ns) (free : (k : ℕ) → k < length ns
   abbrev pub Placed : Outcome → Type 0
   Placed Stay = Unit
   Placed (At q) = q < length ns
-  Placed (Put m) = (delay (formulaOf fs m) ≤ 4095 → NodeFits (length ns) m) × (law ns m ≡ Stay)
+  Placed (Put m) = (delay (formulaOver fs m) ≤ 4095 → NodeFits (length ns) m) × (law ns m ≡ Stay)
 
   module _ (n : Node) (w : NodeFits (length ns) n) where
     abbrev l : Node
@@ -66,7 +66,7 @@ module _ (ns : List Node) (fits : AllFit ns) (free : (k : ℕ) → k < length ns
         d : op l ≡ o
         d = ap opOf k ∙ e
 
-        merged-fits : delay (formulaOf fs (merged n l)) ≤ 4095 → NodeFits (length ns) (merged n l)
+        merged-fits : delay (formulaOver fs (merged n l)) ≤ 4095 → NodeFits (length ns) (merged n l)
         merged-fits t =
             let y = left-before (n .left) l (fits (n .left) x) d (ap (λ (u : Uses). u .left) as-F) in
             let a = w .ordered in

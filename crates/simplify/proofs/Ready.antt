@@ -12,8 +12,8 @@ use Rattle.table.specs.declared.Table.{Table}
 use Rattle.table.specs.Nodes.{noNode, nodeAt}
 use Rattle.table.specs.Sound.{NodeFits, Sound}
 use Rattle.simplify.specs.declared.Build.{Build}
-use Rattle.simplify.specs.Law.{nodeIn}
-use Rattle.simplify.specs.Passes.{Bounded, Space, noBuild, stepOf}
+use Rattle.simplify.specs.Code.Law.{nodeIn}
+use Rattle.simplify.specs.Code.Passes.{Bounded, Space, noBuild, stepOf}
 use Rattle.simplify.proofs.Arrays.{sim-rebuilt}
 use Rattle.simplify.proofs.Chains.{AllFit}
 use Rattle.simplify.proofs.Fields.{hi-limit}

@@ -11,13 +11,13 @@ use Rattle.lists.proofs.Sequences.{each-place, length-snoc, snoc-ind}
 use Rattle.lists.proofs.Tests.{lt-or-le}
 use Rattle.mltl.specs.Mltl.{Formula, delay}
 use Rattle.table.specs.declared.Node.{Node}
-use Rattle.table.specs.Nodes.{formulaAt, formulaOf, formulas, noNode}
+use Rattle.table.specs.Nodes.{formulaAt, formulaOver, formulas, noNode}
 use Rattle.table.specs.Sound.{NodeFits}
 use Rattle.simplify.specs.declared.Outcome.{Outcome}
 use Rattle.simplify.specs.declared.Outcome.the-variants.{At, Put, Stay}
 use Rattle.simplify.specs.Fits.{op}
-use Rattle.simplify.specs.Law.{law, nodeIn}
-use Rattle.simplify.specs.Passes.{find, renamed}
+use Rattle.simplify.specs.Code.Law.{law, nodeIn}
+use Rattle.simplify.specs.Code.Passes.{find, renamed}
 use Rattle.simplify.proofs.Better.{Better, better-then, formula-better}
 use Rattle.simplify.proofs.Cases.{by-test}
 use Rattle.simplify.proofs.Chains.{AllFit, fit-fewer, fit-last, formula-last, formula-old, law-kept, node-last, node-old, unrolled}
@@ -45,7 +45,7 @@ pub record Entered (ns new : List Node) (q : ℕ) (f : Formula) : Type 0 where
   pub has : formulaAt new q ≡ f
 
 module _ (ns : List Node) (g : Good ns) where
-  good-more : (c : Node) → NodeFits (length ns) c → law ns c ≡ Stay → delay (formulaOf (formulas ns) c) ≤ 4095 → length ns ≤ find ns c
+  good-more : (c : Node) → NodeFits (length ns) c → law ns c ≡ Stay → delay (formulaOver (formulas ns) c) ≤ 4095 → length ns ≤ find ns c
       → Good (ns ++ (c ∷ []))
   good-more c w s d h = record {
     fits = each-place ns c (λ k. NodeFits k (nodeIn (ns ++ (c ∷ [])) k)) (λ k l. rw (node-old ns c k l) (g .fits k l)) (rw (node-last ns c) w);
@@ -58,17 +58,17 @@ module _ (ns : List Node) (g : Good ns) where
         (λ i e. find-none ns c h j i (sym (node-old ns c j i) ∙ e ∙ node-last ns c)) k l i;
   }
 
-  enter : (c : Node) → NodeFits (length ns) c → law ns c ≡ Stay → delay (formulaOf (formulas ns) c) ≤ 4095
-      → Entered ns (entered ns c) (find ns c) (formulaOf (formulas ns) c)
+  enter : (c : Node) → NodeFits (length ns) c → law ns c ≡ Stay → delay (formulaOver (formulas ns) c) ≤ 4095
+      → Entered ns (entered ns c) (find ns c) (formulaOver (formulas ns) c)
   enter c w s d =
-      by-test (λ new. Entered ns new (find ns c) (formulaOf (formulas ns) c)) (ltb (find ns c) (length ns))
+      by-test (λ new. Entered ns new (find ns c) (formulaOver (formulas ns) c)) (ltb (find ns c) (length ns))
       (λ h. let l = ltb-true _ _ h in record {
         good = g;
         longer = omega arith;
         most = omega arith;
         old = λ k _. refl;
         inside = l;
-        has = unrolled ns (g .fits) (find ns c) ∙ ap (formulaOf (formulas ns)) (find-at ns c l);
+        has = unrolled ns (g .fits) (find ns c) ∙ ap (formulaOver (formulas ns)) (find-at ns c l);
       })
       (λ h.
       let l : length ns ≤ find ns c = ltb-false _ _ h in
@@ -83,8 +83,8 @@ module _ (ns : List Node) (g : Good ns) where
       })
 
   by-outcome : (n : Node) → NodeFits (length ns) n → (v : Outcome) → law ns n ≡ v → Placed ns (g .fits) (g .free) (formulas ns) v
-      → delay (value (formulas ns) (formulaOf (formulas ns) n) v) ≤ 4095
-      → Entered ns (nodesBy ns n v) (placeBy ns n v) (value (formulas ns) (formulaOf (formulas ns) n) v)
+      → delay (value (formulas ns) (formulaOver (formulas ns) n) v) ≤ 4095
+      → Entered ns (nodesBy ns n v) (placeBy ns n v) (value (formulas ns) (formulaOver (formulas ns) n) v)
   by-outcome n w Stay e p d = enter n w e d
   by-outcome n w (At q) e p d = record { good = g; longer = omega arith; most = omega arith; old = λ k _. refl; inside = p; has = refl }
   by-outcome n w (Put m) e p d = enter m (p .0 d) (p .1) d
@@ -108,7 +108,7 @@ pub record Rebuilt (old : List Node) (s : Lists) : Type 0 where
 
 -- one place more
 module _ (old : List Node) (x : Node) (s : Lists) (v : Rebuilt old s) (new : List Node) (q : ℕ) (f : Formula)
-    (e : Entered (s .nodes) new q f) (b : Better (formulaOf (formulas old) x) f) where
+    (e : Entered (s .nodes) new q f) (b : Better (formulaOver (formulas old) x) f) where
   old-place : (k : ℕ) → k < length old → getD (s .places ++ (q ∷ [])) k 0 ≡ getD (s .places) k 0
   old-place = place-old (s .places) q (length old) (v .many)
 
@@ -136,13 +136,13 @@ module _ (old : List Node) (x : Node) (f : Fine (old ++ (x ∷ []))) (s : Lists)
   moved-fits : NodeFits (length (s .nodes)) (renamed (s .places) x)
   moved-fits = renamed-fits (s .places) (v .first) (length old) (length (s .nodes)) x (λ _. v .inside _) (λ _. v .inside _) last-fits
 
-  moved-better : Better (formulaOf (formulas old) x) (formulaOf (formulas (s .nodes)) (renamed (s .places) x))
+  moved-better : Better (formulaOver (formulas old) x) (formulaOver (formulas (s .nodes)) (renamed (s .places) x))
   moved-better =
       formula-better x (getD (s .places) (x .left) 0) (getD (s .places) (x .right) 0) (op x) _ _ _ _
       (λ u. v .better _ (last-fits .left .limited u)) (λ u. v .better _ (last-fits .right .limited u))
 
-  law-better : Better (formulaOf (formulas (s .nodes)) (renamed (s .places) x))
-      (value (formulas (s .nodes)) (formulaOf (formulas (s .nodes)) (renamed (s .places) x)) (law (s .nodes) (renamed (s .places) x)))
+  law-better : Better (formulaOver (formulas (s .nodes)) (renamed (s .places) x))
+      (value (formulas (s .nodes)) (formulaOver (formulas (s .nodes)) (renamed (s .places) x)) (law (s .nodes) (renamed (s .places) x)))
   law-better =
       meant (formulas (s .nodes)) (renamed (s .places) x) (nodeIn (s .nodes) (getD (s .places) (x .left) 0))
       (nodeIn (s .nodes) (getD (s .places) (x .right) 0))

@@ -15,15 +15,15 @@ use Rattle.mltl.specs.Mltl.{const}
 use Rattle.table.specs.declared.Node.{Node}
 use Rattle.table.specs.declared.Rule.{Rule}
 use Rattle.table.specs.declared.Table.{Table}
-use Rattle.table.specs.Nodes.{formulaAt, formulaOf, noNode, noRule, ruleAt, watchedFormula}
+use Rattle.table.specs.Nodes.{formulaAt, formulaOver, noNode, noRule, ruleAt, watchedFormula}
 use Rattle.table.specs.Sound.{RuleFits, Sound}
 use Rattle.table.proofs.Delays.{formula-prefix}
 use Rattle.table.proofs.Soundness.{sound-iff}
-use Rattle.needed.specs.Marks.{needed}
+use Rattle.needed.specs.Marks.{needed, hasOperand}
 use Rattle.needed.proofs.Marked.{Cause, Marked, needed-marked}
-use Rattle.simplify.specs.Fits.{Fits, copies, hasOperand, law-at, op, unused}
-use Rattle.simplify.specs.Law.{law, lawAs, nodeIn}
-use Rattle.simplify.specs.Passes.{markWatched, renamedRule}
+use Rattle.simplify.specs.Fits.{Fits, copies, law-at, op, unused}
+use Rattle.simplify.specs.Code.Law.{law, lawAs, nodeIn}
+use Rattle.simplify.specs.Code.Passes.{markWatched, renamedRule}
 use Rattle.simplify.specs.Promise.{Simpler}
 use Rattle.simplify.proofs.Better.{Better}
 use Rattle.simplify.proofs.Fitting.{moves, rests}
@@ -45,7 +45,7 @@ module _ (ns : List Node) where
   padded-free k h = padded-node k ∙ List·getD-eq-default ns noNode {n = k} h
 
   padded-formula : (k : ℕ) → k < length ns → formulaAt (padded noNode 64 ns) k ≡ formulaAt ns k
-  padded-formula k h = chain-prefix formulaOf (const false) ns (replicate (64 - length ns) noNode) k h
+  padded-formula k h = chain-prefix formulaOver (const false) ns (replicate (64 - length ns) noNode) k h
 
   pub padded-law : (n : Node) → law (padded noNode 64 ns) n ≡ law ns n
   padded-law n = ap₂ (λ l r. lawAs n l r (op n)) (padded-node (n .left)) (padded-node (n .right))

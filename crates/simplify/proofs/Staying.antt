@@ -8,7 +8,7 @@ use lib.Dec.{eqb}
 use borrow.Author.Tests.{eqb-false, ne-eqb}
 use Rattle.lists.specs.Choice.{pick}
 use Rattle.table.specs.declared.Node.{Node}
-use Rattle.simplify.specs.Law.{is, constant, merged, overOne, isInside, leftStays, lawNot, lawOne, lawTwo, lawJoin}
+use Rattle.simplify.specs.Code.Law.{is, constant, merged, overOne, isInside, leftStays, lawNot, lawOne, lawTwo, lawJoin}
 use Rattle.simplify.specs.declared.Outcome.{Outcome}
 use Rattle.simplify.specs.declared.Outcome.the-variants.{Stay, At, Put}
 use Rattle.simplify.proofs.Cases.{neither}

@@ -5,7 +5,7 @@ use mathlib.Core.Bool.{Bool, false, true}
 use borrow.Author.Tests.{le-ltb, lt-ltb}
 use Rattle.table.specs.declared.Node.{Node}
 use Rattle.simplify.specs.declared.Build.{Build}
-use Rattle.simplify.specs.Passes.{enter, enterAt, find, keepOf, nodesOf, placesOf, pushNode, pushPlace, renamed}
+use Rattle.simplify.specs.Code.Passes.{enter, enterAt, find, keepOf, nodesOf, placesOf, pushNode, pushPlace, renamed}
 
 module _ (b : Build) (n : Node) {q : ℕ} (e : q ≡ find (nodesOf b) n) where
   pub enter-old : {r : Build} → q < b .count → r ≡ pushPlace b q → r ≡ enter b n

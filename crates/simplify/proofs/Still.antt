@@ -12,8 +12,8 @@ use Rattle.table.specs.declared.Node.{Node}
 use Rattle.table.specs.Nodes.{noNode}
 use Rattle.table.specs.Sound.{NodeFits}
 use Rattle.simplify.specs.declared.Outcome.the-variants.{Stay}
-use Rattle.simplify.specs.Law.{law, nodeIn}
-use Rattle.simplify.specs.Passes.{find, renamed}
+use Rattle.simplify.specs.Code.Law.{law, nodeIn}
+use Rattle.simplify.specs.Code.Passes.{find, renamed}
 use Rattle.simplify.proofs.Chains.{fit-fewer, fit-last, law-kept, node-last, node-old}
 use Rattle.simplify.proofs.Fields.{places-agree}
 use Rattle.simplify.proofs.Found.{find-at, find-most}

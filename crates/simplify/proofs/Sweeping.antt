@@ -10,8 +10,8 @@ use Rattle.lists.proofs.Sequences.{each-place, length-snoc, snoc-ind}
 use Rattle.table.specs.declared.Node.{Node}
 use Rattle.table.specs.Nodes.{noNode}
 use Rattle.table.specs.Sound.{NodeFits}
-use Rattle.simplify.specs.Law.{nodeIn}
-use Rattle.simplify.specs.Passes.{renamed}
+use Rattle.simplify.specs.Code.Law.{nodeIn}
+use Rattle.simplify.specs.Code.Passes.{renamed}
 use Rattle.simplify.proofs.Cases.{by-test}
 use Rattle.simplify.proofs.Chains.{AllFit, fit-fewer, fit-last, node-last, node-old}
 use Rattle.simplify.proofs.Fields.{places-agree}

@@ -13,7 +13,7 @@ use Rattle.table.specs.Sound.{Sound, isSound}
 use Rattle.table.proofs.Soundness.{sound-iff}
 use Rattle.needed.specs.Marks.{needed}
 use Rattle.simplify.specs.declared.Build.{Build}
-use Rattle.simplify.specs.Passes.{keepBy, markWatched, noBuild, placesOf, renamedRule, stepOf}
+use Rattle.simplify.specs.Code.Passes.{keepBy, markWatched, noBuild, placesOf, renamedRule, stepOf}
 use Rattle.simplify.specs.Promise.{Promised}
 use Rattle.simplify.proofs.Arrays.{Sim, sim-nodes, sim-rebuilt, sim-swept}
 use Rattle.simplify.proofs.Model.{rebuilt, simplified, swept}

@@ -12,8 +12,9 @@ use Rattle.table.specs.declared.Node.{Node}
 use Rattle.table.specs.Nodes.{opOf, usesOf}
 use Rattle.table.specs.Sound.{NodeFits}
 use Rattle.needed.proofs.Marked.{used-left, used-right}
-use Rattle.simplify.specs.Fits.{hasOperand}
-use Rattle.simplify.specs.Passes.{renamed}
+use Rattle.needed.specs.Marks.{hasOperand}
+use Rattle.simplify.specs.Fits.{}
+use Rattle.simplify.specs.Code.Passes.{renamed}
 use Rattle.simplify.proofs.Cases.{both}
 
 module _ (n : Node) where

@@ -15,7 +15,7 @@ use Rattle.lists.proofs.Tests.{or-split}
 use Rattle.table.specs.declared.Rule.{Rule}
 use Rattle.table.specs.Nodes.{noRule}
 use Rattle.needed.proofs.Bits.{mark-bit}
-use Rattle.simplify.specs.Passes.{markRule, markWatched}
+use Rattle.simplify.specs.Code.Passes.{markRule, markWatched}
 use Rattle.simplify.proofs.Cases.{left-true, right-true}
 
 abbrev pub watchedIn : List Rule → ℕ → ℕ

@@ -12,9 +12,10 @@ use Rattle.table.specs.declared.Node.{Node}
 use Rattle.table.specs.declared.Rule.{Rule}
 use Rattle.table.specs.Nodes.{noNode}
 use Rattle.needed.proofs.Marked.{Marked}
-use Rattle.simplify.specs.Fits.{hasOperand}
-use Rattle.simplify.specs.Law.{nodeIn}
-use Rattle.simplify.specs.Passes.{renamed}
+use Rattle.needed.specs.Marks.{hasOperand}
+use Rattle.simplify.specs.Fits.{}
+use Rattle.simplify.specs.Code.Law.{nodeIn}
+use Rattle.simplify.specs.Code.Passes.{renamed}
 use Rattle.simplify.proofs.Cases.{is-false, is-true}
 use Rattle.simplify.proofs.Chains.{AllFit, fit-fewer, fit-last}
 use Rattle.simplify.proofs.Watched.{Watched, watchedIn}

@@ -2,11 +2,11 @@
 use Prim.Native.Nat.{ℕ, _≤_, _<_}
 use mathlib.Core.Path.{_≡_}
 use mathlib.Core.Logic.{_⊎_}
-use mathlib.Core.Bool.{Bool, false, _&&_, _||_}
-use lib.Dec.{eqb}
-use Rattle.table.specs.Nodes.{Op, Top, Bottom, Not, And, Or, Finally, Globally, Until, Release, opOf, usesOf, nodeAt, ruleAt}
+use mathlib.Core.Bool.{false}
+use Rattle.table.specs.Nodes.{Op, Top, Bottom, Not, And, Or, Finally, Globally, Until, Release, opOf, nodeAt, ruleAt}
 use Rattle.table.specs.declared.Node.{Node}
 use Rattle.table.specs.declared.Table.{Table}
+use Rattle.needed.specs.Marks.{hasOperand}
 
 abbrev pub op : Node → Op
 op n = opOf (n .kind)
@@ -60,10 +60,6 @@ pub data LawFits (n l r : Node) : Type 0 where
   U-false : op n ≡ Until → op r ≡ Bottom → LawFits n l r
   G-true : op n ≡ Globally → op l ≡ Top → LawFits n l r
   R-true : op n ≡ Release → op r ≡ Top → LawFits n l r
-
--- i is a place of an operand that the kind of n uses
-abbrev pub hasOperand : Node → ℕ → Bool
-hasOperand n i = (usesOf (op n) .left && eqb (n .left) i) || (usesOf (op n) .right && eqb (n .right) i)
 
 -- ---- a law fits a table
 pub data Fits (t : Table) : Type 0 where

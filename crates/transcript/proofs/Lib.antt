@@ -1,2 +1,4 @@
+-- each step of the program keeps what was shown right for what was read
 pub mod Steps
-pub mod Example
+-- document 01's own book and input, and what is printed for them
+mod Example

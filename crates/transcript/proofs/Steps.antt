@@ -20,22 +20,22 @@ use Rattle.session.specs.Session.{Effect, feeding, closing, unfit, withSeen, de
 use Rattle.session.proofs.Effects.{opened-is, opened-rule, opened-sound, opened-fit, feed-number, close-number}
 use Rattle.acts.specs.Claim.{Going}
 use Rattle.mission.specs.Calls.{Call, feed, close, begin, accepted, statesFed, verdictsGiven}
-use Rattle.mission.specs.Mission.{Start, sessionOf, delayOf, verdictOf}
+use Rattle.mission.specs.Mission.{Start, sessionOf, startDelay, verdictOf}
 use Rattle.mission.proofs.ThirdDemand.{third-demand, session-is}
 use Rattle.mission.proofs.Listed.{states-snoc, verdicts-snoc}
 use Rattle.lines.specs.declared.Line.{Line}
-use Rattle.lines.specs.Lines.{Reading, state, bad, readings, readingsFrom, empty, readingOf, Filling, filling}
+use Rattle.lines.specs.Lines.{Parsed, state, bad, parsedLines, parsedFrom, empty, parsedOf, Filling, filling}
 use Rattle.lines.proofs.Laws.{text-is, badIf, fill-reads, fill-stops}
-use Rattle.rows.specs.Rows.{rowsOf, rowsFrom, decimal, badLine, feedLine}
+use Rattle.rows.specs.Rows.{rowsNamed, rowsFrom, decimal, badLine, feedLine}
 use Rattle.rows.proofs.Laws.{rows-append}
-use Rattle.transcript.specs.Printed.{statesOf, noneBad, inBlocks, ruleName, rowsUpTo, feedRefused, toldAll, toldBad, told, printed, Running, Stopped}
+use Rattle.transcript.specs.Printed.{statesIn, noneBad, inBlocks, ruleName, rowsUpTo, feedRefused, toldAll, toldBad, told, printed, Running, Stopped}
 
 -- ---- readings that begin with states
-states-first : (xs : List ℕ) (rs : List Reading) → statesOf (map state xs ++ rs) ≡ xs ++ statesOf rs
+states-first : (xs : List ℕ) (rs : List Parsed) → statesIn (map state xs ++ rs) ≡ xs ++ statesIn rs
 states-first [] rs = refl
 states-first (x ∷ xs) rs = ap (λ (ys : List ℕ). x ∷ ys) (states-first xs rs)
 
-bad-first : (xs : List ℕ) (rs : List Reading) → noneBad (map state xs ++ rs) ≡ noneBad rs
+bad-first : (xs : List ℕ) (rs : List Parsed) → noneBad (map state xs ++ rs) ≡ noneBad rs
 bad-first [] rs = refl
 bad-first (x ∷ xs) rs = bad-first xs rs
 
@@ -49,7 +49,7 @@ first-fit m = opened-fit (m .simplified .table) (m .rule) (m .opened)
 
 module _ (m : Start) where
   abbrev D : ℕ
-  D = delayOf m
+  D = startDelay m
 
   -- ---- the beginning
   pub running-begin : Running m false [] [] (sessionOf m) (m .history) empty [] 0
@@ -74,23 +74,23 @@ module _ (m : Start) where
 
     -- what was shown are the rows of the settled ticks, on every trace that begins with the states fed
     shown-is : (more : List ℕ) → shown ≡ rowsUpTo m (fed ++ more) (length fed - D)
-    shown-is more = r .rows ∙ ap (rowsOf (ruleName m) 0) (going .exact more)
+    shown-is more = r .rows ∙ ap (rowsNamed (ruleName m) 0) (going .exact more)
 
     -- ---- lines without a bad one
     module _ (xs : List ℕ) where
       abbrev f : Filling
       f = filling (1024 - length waiting) line xs
 
-      said : (later : List ℕ) → readings ((read ++ take (f .used) xs) ++ later)
-          ≡ map state (fed ++ waiting) ++ (map state (f .states) ++ (badIf (f .isBad) ++ readingsFrom (f .line) later))
+      said : (later : List ℕ) → parsedLines ((read ++ take (f .used) xs) ++ later)
+          ≡ map state (fed ++ waiting) ++ (map state (f .states) ++ (badIf (f .isBad) ++ parsedFrom (f .line) later))
       said later =
           rw (append-assoc read (take (f .used) xs) later)
-          (r .text (take (f .used) xs ++ later) ∙ ap (λ (rs : List Reading). map state (fed ++ waiting) ++ rs) (fill-reads (1024 - length waiting) line xs later))
+          (r .text (take (f .used) xs ++ later) ∙ ap (λ (rs : List Parsed). map state (fed ++ waiting) ++ rs) (fill-reads (1024 - length waiting) line xs later))
 
-      states-join : (rs : List Reading) → map state (fed ++ waiting) ++ (map state (f .states) ++ rs) ≡ map state (fed ++ (waiting ++ f .states)) ++ rs
+      states-join : (rs : List Parsed) → map state (fed ++ waiting) ++ (map state (f .states) ++ rs) ≡ map state (fed ++ (waiting ++ f .states)) ++ rs
       states-join rs =
           sym (append-assoc (map state (fed ++ waiting)) (map state (f .states)) rs)
-          ∙ ap (λ (qs : List Reading). qs ++ rs) (sym (map-append state (fed ++ waiting) (f .states)) ∙ ap (map state) (append-assoc fed waiting (f .states)))
+          ∙ ap (λ (qs : List Parsed). qs ++ rs) (sym (map-append state (fed ++ waiting) (f .states)) ∙ ap (map state) (append-assoc fed waiting (f .states)))
 
       pub running-lines : f .isBad ≡ false → Running m last (read ++ take (f .used) xs) shown s h (f .line) (waiting ++ f .states) tick
       running-lines e = record {
@@ -100,7 +100,7 @@ module _ (m : Start) where
         next = r .next;
         blocks = r .blocks;
         fits = omega (arith, length-append waiting (f .states), fill-stops (1024 - length waiting) line xs .fits, r .fits);
-        text = λ later. said later ∙ rw e (states-join (readingsFrom (f .line) later));
+        text = λ later. said later ∙ rw e (states-join (parsedFrom (f .line) later));
       }
 
     -- ---- the session
@@ -133,15 +133,15 @@ module _ (m : Start) where
       stopped-bad e xs b later =
           let all = fed ++ (waiting ++ f xs .states) in
           let k = fill-stops (1024 - length waiting) line xs .spare b in
-          let w : readings ((read ++ take (f xs .used) xs) ++ later) ≡ map state all ++ (bad ∷ readingsFrom (f xs .line) later) =
-          said xs later ∙ rw b (states-join xs (bad ∷ readingsFrom (f xs .line) later)) in
+          let w : parsedLines ((read ++ take (f xs .used) xs) ++ later) ≡ map state all ++ (bad ∷ parsedFrom (f xs .line) later) =
+          said xs later ∙ rw b (states-join xs (bad ∷ parsedFrom (f xs .line) later)) in
           let n : length all ≡ length fed + (length waiting + length (f xs .states)) =
           omega (arith, length-append fed (waiting ++ f xs .states), length-append waiting (f xs .states)) in
           let i : inBlocks (length all) ≡ length fed = omega (arith, n, k, r .blocks e) in
           let t : toldBad m all ≡ rowsUpTo m all (length fed - D) ++ badLine (length all + 1) = rw (i, le-leb (length fed) maxSeen (omega (arith, counted, seen-is))) in
           let u : length all + 1 ≡ s .seen + (length waiting + length (f xs .states)) + 1 = omega (arith, n, seen-is) in
           ap (told m) w
-          ∙ rw (bad-first all (bad ∷ readingsFrom (f xs .line) later), states-first all (bad ∷ readingsFrom (f xs .line) later), append-nil all)
+          ∙ rw (bad-first all (bad ∷ parsedFrom (f xs .line) later), states-first all (bad ∷ parsedFrom (f xs .line) later), append-nil all)
           (t ∙ rw (u, ← shown-is (waiting ++ f xs .states)))
 
       -- ---- a feed of the states that wait
@@ -158,7 +158,7 @@ module _ (m : Start) where
             ∙ rw (fit, le-ltb 1024 (length waiting) (r .fits), le-ltb (length h) 4095 hh, le-ltb (length x) 5280 hx, le-ltb (length o) 16 ho)
 
         pub running-fed : last ≡ false → answer .answer .number ≡ 0
-            → Running m (not (eqb (length waiting) 1024)) read (shown ++ rowsOf (ruleName m) tick (ticks (bitAt (answer .out)) (answer .answer .count)))
+            → Running m (not (eqb (length waiting) 1024)) read (shown ++ rowsNamed (ruleName m) tick (ticks (bitAt (answer .out)) (answer .answer .count)))
             (answer .answer .session) (answer .history) line [] (tick + answer .answer .count)
         running-fed e z =
             let us = ticks (bitAt (answer .out)) (answer .answer .count) in
@@ -185,23 +185,23 @@ module _ (m : Start) where
             let n : answer .answer .number ≡ 24 = number-is ∙ rw over in
             let lt = ltb-true maxSeen (s .seen + length waiting) over in
             let most : length fed ≡ inBlocks maxSeen = omega (arith, lt, counted, seen-is, r .fits, r .blocks e) in
-            let rs = readingsFrom line later in
-            let all = (fed ++ waiting) ++ statesOf rs in
-            let long : maxSeen < length all = omega (arith, lt, seen-is, length-append (fed ++ waiting) (statesOf rs), length-append fed waiting) in
+            let rs = parsedFrom line later in
+            let all = (fed ++ waiting) ++ statesIn rs in
+            let long : maxSeen < length all = omega (arith, lt, seen-is, length-append (fed ++ waiting) (statesIn rs), length-append fed waiting) in
             let a : toldAll m all ≡ feedRefused m all = rw (lt-leb (length all) maxSeen long) in
             let b : toldBad m all ≡ feedRefused m all = rw (lt-leb (inBlocks (length all)) maxSeen (omega (arith, long))) in
-            let w : feedRefused m all ≡ shown ++ feedLine 24 = rw (← most, append-assoc fed waiting (statesOf rs), ← shown-is (waiting ++ statesOf rs)) in
+            let w : feedRefused m all ≡ shown ++ feedLine 24 = rw (← most, append-assoc fed waiting (statesIn rs), ← shown-is (waiting ++ statesIn rs)) in
             ap (told m) (r .text later)
             ∙ rw (bad-first (fed ++ waiting) rs, states-first (fed ++ waiting) rs) (either (noneBad rs) a b ∙ w ∙ rw (← n))
 
     -- ---- the end of the input
     -- a last line that lacks its line end says what it would with it
     pub newline : (line .digits ≡ 0 → ⊥) → printed m read ≡ printed m (read ++ (10 ∷ []))
-    unfolding printed readingsFrom
+    unfolding printed parsedFrom
     newline n =
-        let a : readings (read ++ []) ≡ map state (fed ++ waiting) ++ (readingOf line ∷ []) = r .text [] ∙ rw (ne-eqb (line .digits) 0 n) in
-        let b : readings (read ++ (10 ∷ [])) ≡ map state (fed ++ waiting) ++ (readingOf line ∷ []) = r .text (10 ∷ []) in
-        let c : readings read ≡ readings (read ++ (10 ∷ [])) = ap readings (sym (append-nil read)) ∙ a ∙ sym b in
+        let a : parsedLines (read ++ []) ≡ map state (fed ++ waiting) ++ (parsedOf line ∷ []) = r .text [] ∙ rw (ne-eqb (line .digits) 0 n) in
+        let b : parsedLines (read ++ (10 ∷ [])) ≡ map state (fed ++ waiting) ++ (parsedOf line ∷ []) = r .text (10 ∷ []) in
+        let c : parsedLines read ≡ parsedLines (read ++ (10 ∷ [])) = ap parsedLines (sym (append-nil read)) ∙ a ∙ sym b in
         ap (told m) c
 
     -- the close
@@ -215,8 +215,8 @@ module _ (m : Start) where
       pub close-accepted : closed .answer .number ≡ 0
       close-accepted = close-number s h x o ∙ rw (fit, le-ltb (length h) 4095 hh, le-ltb (length x) 5280 hx, le-ltb (length o) 64 ho)
 
-      pub printed-all : line .digits ≡ 0 → waiting ≡ [] → printed m read ≡ shown ++ rowsOf (ruleName m) tick (ticks (bitAt (closed .out)) (closed .answer .count))
-      unfolding printed readingsFrom
+      pub printed-all : line .digits ≡ 0 → waiting ≡ [] → printed m read ≡ shown ++ rowsNamed (ruleName m) tick (ticks (bitAt (closed .out)) (closed .answer .count))
+      unfolding printed parsedFrom
       printed-all d none =
           let us = ticks (bitAt (closed .out)) (closed .answer .count) in
           let c = third-demand .claim m (r .calls ++ (closeCall ∷ [])) (closed .answer .session) (closed .history) true (accepted closeCall (r .reached) refl close-accepted) in
@@ -224,9 +224,9 @@ module _ (m : Start) where
           let t : statesFed (r .calls ++ (closeCall ∷ [])) ≡ fed = states-snoc (r .calls) closeCall ∙ rw (eq-eqb (closed .answer .number) 0 close-accepted) (append-nil fed) in
           let v : verdictsGiven (r .calls) ++ us ≡ ticks (verdictOf m fed) (length fed) = sym g ∙ c .exact ∙ rw t in
           let a : 0 + length (verdictsGiven (r .calls)) ≡ tick = omega (arith, r .next) in
-          let k : shown ++ rowsOf (ruleName m) tick us ≡ rowsUpTo m fed (length fed) =
-          rw (r .rows, ← a) (sym (rows-append (decimal (ruleName m)) 0 (verdictsGiven (r .calls)) us)) ∙ ap (rowsOf (ruleName m) 0) v in
-          let w : readings read ≡ map state fed ++ [] =
-          ap readings (sym (append-nil read)) ∙ r .text [] ∙ rw (none, eq-eqb (line .digits) 0 d, append-nil fed) in
+          let k : shown ++ rowsNamed (ruleName m) tick us ≡ rowsUpTo m fed (length fed) =
+          rw (r .rows, ← a) (sym (rows-append (decimal (ruleName m)) 0 (verdictsGiven (r .calls)) us)) ∙ ap (rowsNamed (ruleName m) 0) v in
+          let w : parsedLines read ≡ map state fed ++ [] =
+          ap parsedLines (sym (append-nil read)) ∙ r .text [] ∙ rw (none, eq-eqb (line .digits) 0 d, append-nil fed) in
           let q : toldAll m fed ≡ rowsUpTo m fed (length fed) = rw (le-leb (length fed) maxSeen (omega (arith, counted, seen-is))) in
           ap (told m) w ∙ rw (bad-first fed [], states-first fed [], append-nil fed) (q ∙ sym k)

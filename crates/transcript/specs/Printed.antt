@@ -13,19 +13,19 @@ use Rattle.table.specs.declared.Rule.{Rule}
 use Rattle.book.specs.Reading.{reading}
 use Rattle.session.specs.declared.Session.{Session}
 use Rattle.mission.specs.Calls.{Call, Calls, statesFed, verdictsGiven}
-use Rattle.mission.specs.Mission.{Start, sessionOf, delayOf, verdictOf}
+use Rattle.mission.specs.Mission.{Start, sessionOf, startDelay, verdictOf}
 use Rattle.lines.specs.declared.Line.{Line}
-use Rattle.lines.specs.Lines.{Reading, state, bad, readings, readingsFrom}
-use Rattle.rows.specs.Rows.{rowsOf, badLine, feedLine}
+use Rattle.lines.specs.Lines.{Parsed, state, bad, parsedLines, parsedFrom}
+use Rattle.rows.specs.Rows.{rowsNamed, badLine, feedLine}
 
 -- ---- the lines of the input
 -- the states of the lines before the first bad one, and whether no line is bad
-abbrev pub statesOf : List Reading → List ℕ
-statesOf [] = []
-statesOf (state v ∷ rs) = v ∷ statesOf rs
-statesOf (bad ∷ rs) = []
+abbrev pub statesIn : List Parsed → List ℕ
+statesIn [] = []
+statesIn (state v ∷ rs) = v ∷ statesIn rs
+statesIn (bad ∷ rs) = []
 
-abbrev pub noneBad : List Reading → Bool
+abbrev pub noneBad : List Parsed → Bool
 noneBad [] = true
 noneBad (state v ∷ rs) = noneBad rs
 noneBad (bad ∷ rs) = false
@@ -35,21 +35,21 @@ abbrev pub inBlocks : ℕ → ℕ
 inBlocks n = n - n % maxBlock
 
 -- the name of a rule
-abbrev pub nameOf : List Rule → ℕ → ℕ
-nameOf rules r = getD (map (λ (q : Rule). q .name) rules) r 0
+abbrev pub nameIn : List Rule → ℕ → ℕ
+nameIn rules r = getD (map (λ (q : Rule). q .name) rules) r 0
 
 module _ (m : Start) where
   -- the name of the rule as it stood in the book
   abbrev pub ruleName : ℕ
-  ruleName = nameOf (reading (m .book) .table .rules) (m .rule)
+  ruleName = nameIn (reading (m .book) .table .rules) (m .rule)
 
   -- the rows of the first n ticks of a trace
   abbrev pub rowsUpTo : List ℕ → ℕ → List ℕ
-  rowsUpTo states n = rowsOf ruleName 0 (ticks (verdictOf m states) n)
+  rowsUpTo states n = rowsNamed ruleName 0 (ticks (verdictOf m states) n)
 
   -- a feed was refused: the blocks before it were fed, as many as the count of states allows
   abbrev pub feedRefused : List ℕ → List ℕ
-  feedRefused states = rowsUpTo states (inBlocks maxSeen - delayOf m) ++ feedLine SEEN
+  feedRefused states = rowsUpTo states (inBlocks maxSeen - startDelay m) ++ feedLine SEEN
 
   -- no line is bad: the verdicts of all ticks
   abbrev pub toldAll : List ℕ → List ℕ
@@ -59,27 +59,27 @@ module _ (m : Start) where
   abbrev pub toldBad : List ℕ → List ℕ
   toldBad states =
       pick (leb (inBlocks (length states)) maxSeen)
-      (rowsUpTo states (inBlocks (length states) - delayOf m) ++ badLine (length states + 1))
+      (rowsUpTo states (inBlocks (length states) - startDelay m) ++ badLine (length states + 1))
       (feedRefused states)
 
-  abbrev pub told : List Reading → List ℕ
-  told rs = pick (noneBad rs) (toldAll (statesOf rs)) (toldBad (statesOf rs))
+  abbrev pub told : List Parsed → List ℕ
+  told rs = pick (noneBad rs) (toldAll (statesIn rs)) (toldBad (statesIn rs))
 
   -- ---- what is printed for an input
   unfoldable pub printed : List ℕ → List ℕ
-  printed input = told (readings input)
+  printed input = told (parsedLines input)
 
   -- ---- the program at work: `read` was read and `shown` was written; the session, its history, the line so far, the states that wait
   -- in the block, and the tick of the next verdict; and whether the last block was fed
   pub record Running (last : Bool) (read shown : List ℕ) (s : Session) (h : List ℕ) (line : Line) (waiting : List ℕ) (tick : ℕ) : Type 0 where
     pub calls : List Call
     pub reached : Calls (sessionOf m) (m .history) calls s h false
-    pub rows : shown ≡ rowsOf ruleName 0 (verdictsGiven calls)
+    pub rows : shown ≡ rowsNamed ruleName 0 (verdictsGiven calls)
     pub next : tick ≡ length (verdictsGiven calls)
     pub blocks : last ≡ false → length (statesFed calls) % maxBlock ≡ 0
     pub fits : length waiting ≤ maxBlock
     -- what was read says these states and the line so far, whatever follows
-    pub text : (later : List ℕ) → readings (read ++ later) ≡ map state (statesFed calls ++ waiting) ++ readingsFrom line later
+    pub text : (later : List ℕ) → parsedLines (read ++ later) ≡ map state (statesFed calls ++ waiting) ++ parsedFrom line later
 
   -- the program has ended: whatever the input has behind what was read, this is what is printed for it
   abbrev pub Stopped : List ℕ → List ℕ → Type 0

@@ -27,8 +27,8 @@ use Rattle.table.specs.declared.Node.{Node}
 use Rattle.table.specs.declared.Table.{Table}
 use Rattle.column.proofs.Registers.{length-register}
 use Rattle.column.specs.Column.{Turned, register}
-use Rattle.verdict.specs.Steps.{Ready, Run, marked}
-use Rattle.verdict.specs.Verdict.{Answered, Judged, cleared, enough, fitsTo, numberFor, numberOf, ready, told, wholeRows}
+use Rattle.verdict.specs.Code.Steps.{Judgeable, Columns, marked}
+use Rattle.verdict.specs.Verdict.{Answered, Judged, cleared, enough, fitsTo, wholeNumberFor, wholeNumber, ready, withVerdicts, wholeRows}
 
 -- ---- out and scratch
 pub copied-more : (out₀ c : List ℕ) {out : List ℕ} {x : ℕ} (w : ℕ) → w < length out₀ → w < length c → x ≡ getD c w 0 → out ≡ paste out₀ 0 c w
@@ -53,10 +53,10 @@ cut-is m count n f c e h g =
 -- the words of out that were copied from the register of node k, cut at `count`
 pub told-is : {ns : List Node} {marks : ℕ} {trace xs ys mid z : List ℕ} (out : List ℕ) (k count j : ℕ) → j ≡ words count → count ≤ length trace
     → words count ≤ length out
-    → marked marks k ≡ true → Run (k + 1) ns marks trace xs ys → registerWords * k + words (length trace) ≤ length ys
+    → marked marks k ≡ true → Columns (k + 1) ns marks trace xs ys → registerWords * k + words (length trace) ≤ length ys
     → mid ≡ paste out 0 (register (registerWords * k) (words count) ys) (words count)
     → Turned (below count (bitAt (midOf 0 j mid))) (midOf 0 j mid) z
-    → putMid 0 j mid z ≡ told (formulaAt ns k) trace count out
+    → putMid 0 j mid z ≡ withVerdicts (formulaAt ns k) trace count out
 told-is {ns} {trace = trace} {ys = ys} {mid = mid} {z = z} out k count j g c l on r long q v =
     let m : ℕ = words count in
     let n : ℕ = length trace in
@@ -105,7 +105,7 @@ ready-is t k older newer count scratch out p q =
     ap₂ _&&_ p (q ∙ ap (λ (n : ℕ). enough n count (length scratch) (length out)) (sym (length-append older newer)))
 
 module _ (t : Table) (k : ℕ) (trace : List ℕ) (count : ℕ) (scratch out : List ℕ) (places : length (t .nodes) ≡ 64) where
-  pub ready-out : ready t k trace count scratch out ≡ true → Ready (t .nodes) k trace count scratch out
+  pub ready-out : ready t k trace count scratch out ≡ true → Judgeable (t .nodes) k trace count scratch out
   unfolding ready
   ready-out e =
       let place : k < 64 = ltb-true k 64 (search (true-left, true-right) depth 12) in
@@ -136,7 +136,7 @@ module _ {t : Table} {k : ℕ} {trace : List ℕ} {count : ℕ} {scratch out : L
   pub judged-not : b ≡ false → Judged t k trace count scratch out false scratch out
   judged-not f = let r : ready t k trace count scratch out ≡ false = sym e ∙ f in record { answers = sym r; tells = rw r; clears = rw r }
 
-  pub judged : {scratch′ out′ : List ℕ} → b ≡ true → out′ ≡ told (formulaAt (t .nodes) k) trace count out → scratch′ ≡ cleared scratch
+  pub judged : {scratch′ out′ : List ℕ} → b ≡ true → out′ ≡ withVerdicts (formulaAt (t .nodes) k) trace count out → scratch′ ≡ cleared scratch
       → Judged t k trace count scratch out true scratch′ out′
   judged f p q = let r : ready t k trace count scratch out ≡ true = sym e ∙ f in record { answers = sym r; tells = rw r p; clears = rw r q }
 
@@ -149,8 +149,8 @@ pub record WholeFits (t : Table) (rule states scratch out : ℕ) : Type 0 where
   pub scratch-words : 5280 ≤ scratch
   pub out-words : words states ≤ out
 
-pub whole-fits : (t : Table) (rule states scratch out : ℕ) → numberOf t rule states scratch out ≡ 0 → WholeFits t rule states scratch out
-unfolding numberOf
+pub whole-fits : (t : Table) (rule states scratch out : ℕ) → wholeNumber t rule states scratch out ≡ 0 → WholeFits t rule states scratch out
+unfolding wholeNumber
 whole-fits t rule states scratch out e =
     let no = no-row (wholeRows (isSound t) (t .«rule_count») rule states scratch out) refl e in
     record {
@@ -162,14 +162,14 @@ whole-fits t rule states scratch out e =
     }
 
 module _ {t : Table} {rule : ℕ} {states scratch out : List ℕ} where
-  pub refuses : {r : ℕ} → r ≡ numberFor t rule states scratch out → (r ≡ 0 → ⊥) → Answered t rule states scratch out r scratch out
+  pub refuses : {r : ℕ} → r ≡ wholeNumberFor t rule states scratch out → (r ≡ 0 → ⊥) → Answered t rule states scratch out r scratch out
   refuses {r} e z =
-      let q : eqb (numberFor t rule states scratch out) 0 ≡ false = ap (λ (x : ℕ). eqb x 0) (sym e) ∙ ne-eqb r 0 z in
+      let q : eqb (wholeNumberFor t rule states scratch out) 0 ≡ false = ap (λ (x : ℕ). eqb x 0) (sym e) ∙ ne-eqb r 0 z in
       record { answers = e; tells = rw q; clears = rw q }
 
-  pub accepts : {r : Bool} {scratch′ out′ : List ℕ} → numberFor t rule states scratch out ≡ 0
+  pub accepts : {r : Bool} {scratch′ out′ : List ℕ} → wholeNumberFor t rule states scratch out ≡ 0
       → ready t (ruleAt t rule .watched) states (length states) scratch out ≡ true → Judged t (ruleAt t rule .watched) states (length states) scratch out r scratch′ out′
       → Answered t rule states scratch out 0 scratch′ out′
   accepts e f j =
-      let z : eqb (numberFor t rule states scratch out) 0 ≡ true = ap (λ (x : ℕ). eqb x 0) e in
+      let z : eqb (wholeNumberFor t rule states scratch out) 0 ≡ true = ap (λ (x : ℕ). eqb x 0) e in
       record { answers = sym e; tells = rw z (rw f at (j .tells)); clears = rw z (rw f at (j .clears)) }

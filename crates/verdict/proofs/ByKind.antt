@@ -15,10 +15,9 @@ use Rattle.column.specs.Column.{register, filled}
 use Rattle.table.specs.Nodes.{opOf, usesOf}
 use Rattle.table.specs.declared.Node.{Node}
 use Rattle.windows.proofs.Results.{interval-fits}
-use Rattle.operators.specs.Operators.{oneFits, twoFit, fourFit, signalLaid, fillLaid, notLaid, andLaid, orLaid, someLaid, allLaid, untilLaid, releaseLaid}
-use Rattle.operators.specs.Steps.{Operand}
+use Rattle.operators.specs.Operators.{oneFits, twoFit, fourFit, signalLaid, fillLaid, notLaid, andLaid, orLaid, someLaid, allLaid, untilLaid, releaseLaid, Operand}
 use Rattle.operators.proofs.Fits.{one-fits, two-fit, four-fit}
-use Rattle.verdict.specs.Steps.{leftPlace, workPlace, nodeColumn, columnIn, Step, Computable}
+use Rattle.verdict.specs.Code.Steps.{leftPlace, workPlace, nodeColumn, columnIn, Step, Computable}
 use Rattle.verdict.proofs.Steps.{operand-of, four-of, place-fits, laid-step, signal-step, worked-step}
 use Rattle.verdict.proofs.Nodes.{fit-as, place-of, apart, other}
 

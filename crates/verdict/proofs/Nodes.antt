@@ -23,7 +23,7 @@ use Rattle.table.specs.Sound.{fits}
 use Rattle.table.specs.declared.Node.{Node}
 use Rattle.table.specs.declared.Uses.{Uses}
 use Rattle.table.proofs.Soundness.{fits-iff}
-use Rattle.verdict.specs.Steps.{nodeColumn, Place, Computable}
+use Rattle.verdict.specs.Code.Steps.{nodeColumn, Place, Computable}
 use Rattle.windows.proofs.Windows.{until-same}
 
 -- ---- columns of n bits

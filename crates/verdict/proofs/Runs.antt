@@ -22,12 +22,12 @@ use Rattle.table.proofs.Delays.{formula-at, formula-prefix}
 use Rattle.needed.specs.Marks.{hasOperand, mark, needed}
 use Rattle.needed.proofs.Bits.{mark-bit}
 use Rattle.needed.proofs.Marked.{Marked, needed-marked, used-left, used-right}
-use Rattle.verdict.specs.Steps.{Maybe, Run, columnIn, marked, Needs}
+use Rattle.verdict.specs.Code.Steps.{Maybe, Columns, columnIn, marked, Needs}
 use Rattle.verdict.proofs.Steps.{kept-register}
 use Rattle.verdict.proofs.Nodes.{fit-as, column-is}
 
 -- ---- one node more
-pub run-start : (ns : List Node) (marks : ℕ) (trace xs : List ℕ) → Run 0 ns marks trace xs xs
+pub run-start : (ns : List Node) (marks : ℕ) (trace xs : List ℕ) → Columns 0 ns marks trace xs xs
 run-start ns marks trace xs = record { at = λ j h m. absurd (omega arith); high = refl }
 
 -- the mark, as the code asks for it, and the count of states, as it adds it up
@@ -38,7 +38,7 @@ maybe-by {on} {b = b} {m = m} {s = s} {s′ = s′} x trace t e r =
     (subst (λ (w : ℕ). Maybe on b (words w) (columnIn x w trace s) s s′) e r)
 
 module _ {ns : List Node} {marks : ℕ} {trace s₀ s s′ : List ℕ} (top i : ℕ) (a : i < 64) (b : i < length ns) (bound : i ≤ top) (l : scratchWords ≤ length s)
-    (k : length s′ ≡ length s) (small : length trace ≤ 5120) (fitting : fits i (getD ns i noNode) ≡ true) (need : Needs ns top marks) (r : Run i ns marks trace s₀ s)
+    (k : length s′ ≡ length s) (small : length trace ≤ 5120) (fitting : fits i (getD ns i noNode) ≡ true) (need : Needs ns top marks) (r : Columns i ns marks trace s₀ s)
     (both : Maybe (marked marks i) (registerWords * i) (words (length trace)) (columnIn (getD ns i noNode) (length trace) trace s) s s′) where
   abbrev x : Node
   x = getD ns i noNode
@@ -69,7 +69,7 @@ module _ {ns : List Node} {marks : ℕ} {trace s₀ s s′ : List ℕ} (top i : 
       (λ u. operand (x .right) (f .right u) (need .right i bound m u (f .right u)))
       ∙ ap (λ (g : Formula). packed n (holds g trace)) (sym (formula-at ns i b))
 
-  pub run-more : Run (i + 1) ns marks trace s₀ s′
+  pub run-more : Columns (i + 1) ns marks trace s₀ s′
   run-more =
       record {
         at = λ j h m.

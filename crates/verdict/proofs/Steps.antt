@@ -13,11 +13,10 @@ use Rattle.lists.specs.Choice.{pick}
 use Rattle.column.specs.Column.{register, lay}
 use Rattle.column.proofs.Registers.{register-lay, take-lay}
 use Rattle.column.proofs.Parts.{register-part}
-use Rattle.operators.specs.Operators.{worked}
-use Rattle.operators.specs.Steps.{Operand}
+use Rattle.operators.specs.Operators.{worked, Operand}
 use Rattle.operators.proofs.Fits.{Four}
 use Rattle.operators.proofs.Worked.{drop-above, worked-here, worked-low, worked-high}
-use Rattle.verdict.specs.Steps.{leftPlace, workPlace, Place, Step}
+use Rattle.verdict.specs.Code.Steps.{leftPlace, workPlace, Place, Step}
 
 -- a register below what is known
 pub kept-register : (b at m : ℕ) (xs ys : List ℕ) → take b ys ≡ take b xs → at + m ≤ b → b ≤ length xs → b ≤ length ys → register at m ys ≡ register at m xs

@@ -1,4 +1,4 @@
 -- what the public functions answer, and leave in their buffers
 pub mod Verdict
--- the registers, and what the steps on the way leave there
-pub mod Steps
+-- what only the steps of the code are about: no other crate names it
+pub mod Code

@@ -17,8 +17,8 @@ use Rattle.table.specs.declared.Table.{Table}
 
 -- ---- the buffers after an accepted call
 -- the verdicts of the first `count` ticks, and then the later words of out
-abbrev pub told : Formula → List ℕ → ℕ → List ℕ → List ℕ
-told f trace count out = packed count (holds f trace) ++ drop (words count) out
+abbrev pub withVerdicts : Formula → List ℕ → ℕ → List ℕ → List ℕ
+withVerdicts f trace count out = packed count (holds f trace) ++ drop (words count) out
 
 -- the words of all registers zero, and then the rest of the scratch
 abbrev pub cleared : List ℕ → List ℕ
@@ -39,7 +39,7 @@ ready t k trace count scratch out = fitsTo t k && enough (length trace) count (l
 -- the answer tells whether it was ready; where not, both buffers are as they were
 pub record Judged (t : Table) (k : ℕ) (trace : List ℕ) (count : ℕ) (scratch out : List ℕ) (answer : Bool) (scratch′ out′ : List ℕ) : Type 0 where
   pub answers : answer ≡ ready t k trace count scratch out
-  pub tells : out′ ≡ pick (ready t k trace count scratch out) (told (formulaAt (t .nodes) k) trace count out) out
+  pub tells : out′ ≡ pick (ready t k trace count scratch out) (withVerdicts (formulaAt (t .nodes) k) trace count out) out
   pub clears : scratch′ ≡ pick (ready t k trace count scratch out) (cleared scratch) scratch
 
 -- ---- the formula that a rule watches
@@ -48,14 +48,14 @@ abbrev pub wholeRows : Bool → ℕ → ℕ → ℕ → ℕ → ℕ → List Row
 wholeRows sound count rule states scratch out =
     ruleRows sound count rule ++ ((STATES if ltb maxTrace states) ∷ (BUFFER if (ltb scratch scratchWords || ltb out (words states))) ∷ [])
 
-unfoldable pub numberOf : Table → ℕ → ℕ → ℕ → ℕ → ℕ
-numberOf t rule states scratch out = first (wholeRows (isSound t) (t .«rule_count») rule states scratch out)
+unfoldable pub wholeNumber : Table → ℕ → ℕ → ℕ → ℕ → ℕ
+wholeNumber t rule states scratch out = first (wholeRows (isSound t) (t .«rule_count») rule states scratch out)
 
-abbrev pub numberFor : Table → ℕ → List ℕ → List ℕ → List ℕ → ℕ
-numberFor t rule states scratch out = numberOf t rule (length states) (length scratch) (length out)
+abbrev pub wholeNumberFor : Table → ℕ → List ℕ → List ℕ → List ℕ → ℕ
+wholeNumberFor t rule states scratch out = wholeNumber t rule (length states) (length scratch) (length out)
 
 -- the number; where it is not 0, both buffers are as they were
 pub record Answered (t : Table) (rule : ℕ) (states scratch out : List ℕ) (number : ℕ) (scratch′ out′ : List ℕ) : Type 0 where
-  pub answers : number ≡ numberFor t rule states scratch out
-  pub tells : out′ ≡ pick (eqb (numberFor t rule states scratch out) 0) (told (watchedFormula t rule) states (length states) out) out
-  pub clears : scratch′ ≡ pick (eqb (numberFor t rule states scratch out) 0) (cleared scratch) scratch
+  pub answers : number ≡ wholeNumberFor t rule states scratch out
+  pub tells : out′ ≡ pick (eqb (wholeNumberFor t rule states scratch out) 0) (withVerdicts (watchedFormula t rule) states (length states) out) out
+  pub clears : scratch′ ≡ pick (eqb (wholeNumberFor t rule states scratch out) 0) (cleared scratch) scratch

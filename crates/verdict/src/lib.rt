@@ -9,9 +9,9 @@ ghost use Rattle.limits.specs.Limits.{maxNodes, registerWords};
 ghost use Rattle.lists.specs.Bits.{words};
 ghost use Rattle.lists.specs.Choice.{pick, first};
 ghost use Rattle.column.specs.Column.{register};
-ghost use Rattle.verdict.specs.Verdict.{told, cleared, fitsTo, enough, Judged, wholeRows, Answered};
+ghost use Rattle.verdict.specs.Verdict.{withVerdicts, cleared, fitsTo, enough, Judged, wholeRows, Answered};
 ghost use Rattle.table.specs.Nodes.{formulaAt};
-ghost use Rattle.verdict.specs.Steps.{Step, Maybe, columnIn, Computable, Needs, Run, Runnable, Ready};
+ghost use Rattle.verdict.specs.Code.Steps.{Step, Maybe, columnIn, Computable, Needs, Columns, Runnable, Judgeable};
 use limits::MAX_NODES;
 use limits::MAX_TRACE;
 use limits::REGISTER_WORDS;
@@ -127,7 +127,7 @@ fn marks_for(t: Table, k: usize) -> u64
 // The columns of the marked ones of the first `upto` nodes.
 fn run(t: Table, marks: u64, upto: usize, older: &[u32], newer: &[u32], s: &mut [u64])
     requires { ⌜ Runnable upto (t .nodes) marks (now older ++ now newer) (now s) ⌝ }
-    ensures { λ _. ⌜ Run upto (t .nodes) marks (now (older .entry) ++ now (newer .entry)) (now (s .entry)) (now (s .exit)) ⌝ }
+    ensures { λ _. ⌜ Columns upto (t .nodes) marks (now (older .entry) ++ now (newer .entry)) (now (s .entry)) (now (s .exit)) ⌝ }
 {
     let n = older.len() + newer.len();
     for i in 0..upto {
@@ -156,8 +156,8 @@ fn evaluate(
     scratch: &mut [u64],
     out: &mut [u64],
 )
-    requires { ⌜ Ready (t .nodes) k (now older ++ now newer) count (now scratch) (now out) ⌝ }
-    ensures { λ _. ⌜ (now (out .exit) ≡ told (formulaAt (t .nodes) k) (now (older .entry) ++ now (newer .entry)) count (now (out .entry))) × (now (scratch .exit) ≡ cleared (now (scratch .entry))) ⌝ }
+    requires { ⌜ Judgeable (t .nodes) k (now older ++ now newer) count (now scratch) (now out) ⌝ }
+    ensures { λ _. ⌜ (now (out .exit) ≡ withVerdicts (formulaAt (t .nodes) k) (now (older .entry) ++ now (newer .entry)) count (now (out .entry))) × (now (scratch .exit) ≡ cleared (now (scratch .entry))) ⌝ }
 {
     let m = (count + 63) / 64;
     let marks = marks_for(t, k);

@@ -28,16 +28,16 @@ use Rattle.lines.specs.declared.Line.{Line}
 use Rattle.lines.specs.declared.Filled.{Filled}
 use Rattle.lines.specs.Lines.{empty, Filling, filling, filledFrom}
 use Rattle.lines.proofs.Laws.{fill-stops, fill-newline}
-use Rattle.rows.specs.Rows.{Put, rowsOf, fitting, badLine, feedLine}
+use Rattle.rows.specs.Rows.{Put, rowsNamed, fitting, badLine, feedLine}
 use Rattle.rows.proofs.Laws.{put-bytes}
-use Rattle.transcript.specs.Printed.{nameOf, ruleName, printed, Running, Stopped}
+use Rattle.transcript.specs.Printed.{nameIn, ruleName, printed, Running, Stopped}
 use Rattle.transcript.proofs.Steps.{running-begin, newline, few, delay-short, running-lines, stopped-bad, running-fed, stopped-fed, close-accepted, printed-all}
 use Rattle.watch.specs.declared.Progress.{Progress}
-use Rattle.watch.specs.declared.Outcome.{Outcome}
+use Rattle.watch.specs.declared.StepAnswer.{StepAnswer}
 use Rattle.watch.specs.Steps.{Runs, Follows, Begins, Ready, Fed, Steps, Closes, Passed, Consumed, Completed}
 
 -- rows that fit, at the start of the text
-fitting-is : (name tick : ℕ) (words : List ℕ) (count : ℕ) → count ≤ 4096 → tick ≤ 4294967295 → fitting name tick words count ≡ rowsOf name tick (ticks (bitAt words) count)
+fitting-is : (name tick : ℕ) (words : List ℕ) (count : ℕ) → count ≤ 4096 → tick ≤ 4294967295 → fitting name tick words count ≡ rowsNamed name tick (ticks (bitAt words) count)
 fitting-is name tick words count h k = rw (le-ltb 4096 count h, le-ltb 18446744073709551615 (tick + count) (omega arith))
 
 -- no row of a feed's refusals fits, so the last does not
@@ -69,7 +69,7 @@ module _ (t : Table) (s : Simplified) (promised : Promised t s) (d : Rule) where
     unfolding opening
     opens = rw (simpler .sound, lt-leb (s .table .«rule_count») 0 some-rule)
 
-    first-name : getD (s .table .rules) 0 d .name ≡ nameOf (t .rules) 0
+    first-name : getD (s .table .rules) 0 d .name ≡ nameIn (t .rules) 0
     first-name =
         sym (List·getD-map (λ (r : Rule). r .name) (s .table .rules) 0 d)
         ∙ first-of (map (λ (r : Rule). r .name) (s .table .rules)) (d .name) 0 (rw (length-map (s .table .rules) (λ (r : Rule). r .name), sound-iff (s .table) .0 (simpler .sound) .rule-places) (omega arith))
@@ -166,7 +166,7 @@ module _ (p : Progress) (at : ℕ) (h block x o : List ℕ) (a : Answer) (h' x' 
             rw (w, ← waits, runs .1)
                 (subst
                 (λ (z : Effect). Running m (not (eqb (length (take (p .count) block)) 1024)) read
-                (shown ++ rowsOf (ruleName m) (p .tick) (ticks (bitAt (z .out)) (z .answer .count)))
+                (shown ++ rowsNamed (ruleName m) (p .tick) (ticks (bitAt (z .out)) (z .answer .count)))
                 (z .answer .session) (z .history) (p .line) [] (p .tick + z .answer .count))
                 (sym is) (running-fed m (runs .0) counted x o hh hx ho refl q)),
             runs .1,
@@ -193,7 +193,7 @@ module _ (p : Progress) (h x o : List ℕ) (a : Answer) (x' o' : List ℕ)
       let short : delayOf (p .session) ≤ 4095 = delay-short m (runs .0) in
       let w = put-bytes put ∙ fitting-is (p .name) (p .tick) o' (a .count) (omega (arith, k, short)) (omega (arith, few m (runs .0), counted)) in
       rw (w, runs .1)
-      (subst (λ (e : Effect). printed m read ≡ shown ++ rowsOf (ruleName m) (p .tick) (ticks (bitAt (e .out)) (e .answer .count))) (sym is)
+      (subst (λ (e : Effect). printed m read ≡ shown ++ rowsNamed (ruleName m) (p .tick) (ticks (bitAt (e .out)) (e .answer .count))) (sym is)
       (printed-all m (runs .0) counted x o hh hx ho d (rw z refl)))
 
 -- ---- a step
@@ -280,7 +280,7 @@ module _ (p : Progress) (part : List ℕ) (at : ℕ) (h block : List ℕ) (ready
     };
   }
 
-  step-fed : (h' text : List ℕ) (r : Outcome) → f .isBad ≡ false → 1024 ≤ p .count + length (f .states) → Fed after (at + f .used) h filledBlock h' text r
+  step-fed : (h' text : List ℕ) (r : StepAnswer) → f .isBad ≡ false → 1024 ≤ p .count + length (f .states) → Fed after (at + f .used) h filledBlock h' text r
       → Steps p part at h block h' filledBlock text r
   step-fed h' text r e ge w =
       let full : p .count + length (f .states) ≡ 1024 = omega (arith, fits-in, size) in
@@ -336,7 +336,7 @@ module _ (p : Progress) (part : List ℕ) (at : ℕ) (h block : List ℕ) (ready
         }))
         (sym is) (step-part text))
 
-    pub fed-step : (h' text : List ℕ) (r : Outcome) → q .bad ≡ false → 1024 ≤ q .count
+    pub fed-step : (h' text : List ℕ) (r : StepAnswer) → q .bad ≡ false → 1024 ≤ q .count
         → Fed (record { session = p .session; name = p .name; line = q .line; count = q .count; tick = p .tick; going = true }) (q .at) h b' h' text r
         → Steps p part at h block h' b' text r
     fed-step h' text r =
@@ -356,7 +356,7 @@ module _ (first : Progress) (part h₀ block₀ : List ℕ) where
   pub through-none : Through 0 first h₀ block₀
   through-none m read q = rw (append-nil read) q
 
-  pub through-step : (at : ℕ) (p : Progress) (h block h' block' text : List ℕ) (o : Outcome) → at < length part → Through at p h block
+  pub through-step : (at : ℕ) (p : Progress) (h block h' block' text : List ℕ) (o : StepAnswer) → at < length part → Through at p h block
       → Steps p part at h block h' block' text o → o .progress .going ≡ true → Through (o .at) (o .progress) h' block'
   through-step at p h block h' block' text o lt t s g m read q =
       let w = t m read q in
@@ -371,7 +371,7 @@ module _ (first : Progress) (part h₀ block₀ : List ℕ) where
 
 -- ---- the line end that the last line may lack
 module _ (p : Progress) (h block : List ℕ) where
-  pub complete-step : (h' block' text : List ℕ) (o : Outcome) → (p .line .digits ≡ 0 → ⊥) → Steps p (10 ∷ []) 0 h block h' block' text o
+  pub complete-step : (h' block' text : List ℕ) (o : StepAnswer) → (p .line .digits ≡ 0 → ⊥) → Steps p (10 ∷ []) 0 h block h' block' text o
       → Completed p h block h' block' (o .progress)
   complete-step h' block' text o n s =
       let k = s .further (omega arith) in

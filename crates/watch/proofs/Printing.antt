@@ -10,7 +10,7 @@ use Rattle.lines.specs.declared.Line.{Line}
 use Rattle.transcript.specs.Printed.{printed}
 use Rattle.transcript.proofs.Steps.{newline}
 use Rattle.watch.specs.declared.Progress.{Progress}
-use Rattle.watch.specs.declared.Outcome.{Outcome}
+use Rattle.watch.specs.declared.StepAnswer.{StepAnswer}
 use Rattle.watch.specs.Steps.{Follows, Fed, Closes, Run, begun, stepped}
 
 -- what was shown is right for what was read
@@ -28,7 +28,7 @@ module _ {m : Start} {read shown : List ℕ} {p : Progress} {h block : List ℕ}
   last-line g n = newline m (run-right r .onward g .0) n
 
   -- the end of the input: the last block and the close
-  module _ (g : p .going ≡ true) (whole : p .line .digits ≡ 0) (at : ℕ) (h' text : List ℕ) (o : Outcome) (fed : Fed p at h block h' text o) where
+  module _ (g : p .going ≡ true) (whole : p .line .digits ≡ 0) (at : ℕ) (h' text : List ℕ) (o : StepAnswer) (fed : Fed p at h block h' text o) where
     pub refused-printed : o .progress .going ≡ false → printed m read ≡ shown ++ take (o .used) text
     refused-printed f = ap (printed m) (sym (append-nil read)) ∙ fed .right m read shown (run-right r .onward g) .ended f []
 

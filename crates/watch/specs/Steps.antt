@@ -13,7 +13,7 @@ use Rattle.mission.specs.Mission.{Start}
 use Rattle.lines.specs.Lines.{empty}
 use Rattle.transcript.specs.Printed.{ruleName, printed, Running, Stopped}
 use Rattle.watch.specs.declared.Progress.{Progress}
-use Rattle.watch.specs.declared.Outcome.{Outcome}
+use Rattle.watch.specs.declared.StepAnswer.{StepAnswer}
 
 -- the program at work, with the states that wait in the block's first places
 abbrev pub Runs : Start → Bool → List ℕ → List ℕ → Progress → List ℕ → List ℕ → Type 0
@@ -43,7 +43,7 @@ pub record Ready (p : Progress) : Type 0 where
   pub counted : p .session .seen ≤ maxSeen
 
 -- a feed of the states that wait: h and block are what history and block held, h' and text what history and text hold then
-pub record Fed (p : Progress) (at : ℕ) (h block h' text : List ℕ) (r : Outcome) : Type 0 where
+pub record Fed (p : Progress) (at : ℕ) (h block h' text : List ℕ) (r : StepAnswer) : Type 0 where
   pub place : r .at ≡ at
   pub line : r .progress .line ≡ p .line
   pub ready : r .progress .going ≡ true → (r .progress .count ≡ 0) × Ready (r .progress)
@@ -51,7 +51,7 @@ pub record Fed (p : Progress) (at : ℕ) (h block h' text : List ℕ) (r : Outco
       → Follows m (not (eqb (p .count) maxBlock)) read (shown ++ take (r .used) text) (r .progress) h' block
 
 -- a step over bytes of a part, from a place on
-pub record Steps (p : Progress) (part : List ℕ) (at : ℕ) (h block h' block' text : List ℕ) (r : Outcome) : Type 0 where
+pub record Steps (p : Progress) (part : List ℕ) (at : ℕ) (h block h' block' text : List ℕ) (r : StepAnswer) : Type 0 where
   pub further : at < length part → (at < r .at) × (r .at ≤ length part)
   -- after a line end alone there is no line so far
   pub newline : part ≡ 10 ∷ [] → at ≡ 0 → r .progress .line ≡ empty
@@ -70,7 +70,7 @@ Closes p h text used =
 -- `ended-printed`, `last-line`, `refused-printed`, `all-printed`.
 pub data Run (m : Start) : List ℕ → List ℕ → Progress → List ℕ → List ℕ → Type 0 where
   begun : {p : Progress} {h block : List ℕ} → p .going ≡ true → Runs m false [] [] p h block → Run m [] [] p h block
-  stepped : {read shown : List ℕ} {p : Progress} {h block : List ℕ} (part : List ℕ) (at : ℕ) (h' block' text : List ℕ) (o : Outcome)
+  stepped : {read shown : List ℕ} {p : Progress} {h block : List ℕ} (part : List ℕ) (at : ℕ) (h' block' text : List ℕ) (o : StepAnswer)
       → Run m read shown p h block → p .going ≡ true → Steps p part at h block h' block' text o
       → Run m (read ++ take (o .at - at) (drop at part)) (shown ++ take (o .used) text) (o .progress) h' block'
 

@@ -35,7 +35,7 @@ struct Progress {
 }
 
 // After a step: how far the part was read, and how many bytes of the text are to be written.
-struct Outcome {
+struct StepAnswer {
     progress: Progress,
     at: usize,
     used: usize,
@@ -51,7 +51,7 @@ fn step(
     scratch: &mut [u64; SCRATCH_WORDS],
     out: &mut [u64; CLOSE_WORDS],
     text: &mut [u8; TEXT_BYTES],
-) -> Outcome
+) -> StepAnswer
     requires { ⌜ Ready p × (length (now block) ≡ maxBlock) ⌝ }
     ensures { λ r. ⌜ Steps p (now (part .entry)) at (now (history .entry)) (now (block .entry)) (now (history .exit)) (now (block .exit)) (now (text .exit)) r ⌝ }
 {
@@ -61,7 +61,7 @@ fn step(
     let session = p.session;
     if f.bad {
         let used = rows::put_bad_line(text, session.seen as u64, f.count as u64 + 1);
-        return Outcome {
+        return StepAnswer {
             progress: Progress {
                 session,
                 name: p.name,
@@ -83,7 +83,7 @@ fn step(
         going: true,
     };
     if f.count < MAX_BLOCK {
-        return Outcome {
+        return StepAnswer {
             progress: next,
             at: f.at,
             used: 0,
@@ -101,7 +101,7 @@ fn feed(
     scratch: &mut [u64; SCRATCH_WORDS],
     out: &mut [u64; CLOSE_WORDS],
     text: &mut [u8; TEXT_BYTES],
-) -> Outcome
+) -> StepAnswer
     requires { ⌜ (p .count ≤ maxBlock) × (p .tick ≤ p .session .seen) × (p .session .seen ≤ maxSeen) × (length (now block) ≡ maxBlock) ⌝ }
     ensures { λ r. ⌜ Fed p at (now (history .entry)) (now (block .entry)) (now (history .exit)) (now (text .exit)) r ⌝ }
 {
@@ -111,7 +111,7 @@ fn feed(
     let s = a.session;
     if a.number != 0 {
         let used = rows::put_feed(text, a.number);
-        return Outcome {
+        return StepAnswer {
             progress: Progress {
                 session: s,
                 name: p.name,
@@ -125,7 +125,7 @@ fn feed(
         };
     }
     let used = rows::put_rows(text, p.name, p.tick, out, a.count);
-    Outcome {
+    StepAnswer {
         progress: Progress {
             session: s,
             name: p.name,

@@ -13,8 +13,7 @@ use Rattle.lists.proofs.Tests.{or-left, or-right}
 use Rattle.mltl.specs.Mltl.{eventually, opposite}
 use Rattle.interval.specs.Parts.{badInterval}
 use Rattle.column.specs.Column.{Turned, flipped}
-use Rattle.windows.specs.Windows.{span, someLater, allLater, misplaced, untilLater}
-use Rattle.windows.specs.Steps.{Three}
+use Rattle.windows.specs.Windows.{span, someLater, allLater, misplaced, untilLater, Three}
 
 -- ---- by a test, a list as it was or another one
 pub stays : (xs ys : List ℕ) {b : Bool} → b ≡ true → xs ≡ pick b xs ys

@@ -20,8 +20,8 @@ use Rattle.moves.specs.Moves.{moved}
 use Rattle.column.proofs.Registers.{length-register, register-lt, register-lay, register-apart, length-lay, lay-ext, lay-lay}
 use Rattle.column.proofs.Parts.{part-op, laid-length}
 use Rattle.pair.proofs.Pairs.{part-pair}
-use Rattle.windows.specs.Windows.{third, all, used, untilOf, releaseOf, untilLater, releaseLater}
-use Rattle.windows.specs.Steps.{Two, Three, widthOf, untilParts}
+use Rattle.windows.specs.Windows.{third, all, used, untilOf, releaseOf, untilLater, releaseLater, Three}
+use Rattle.windows.specs.Code.Steps.{Two, widthOf, untilParts}
 use Rattle.windows.proofs.Lays.{held, lay-held, lay-swap, first-over, two-over, used-length, used-below, used-swap, used-over, used-more}
 use Rattle.windows.proofs.Windows.{until-moved, until-ext, width-more}
 use Rattle.windows.proofs.Untils.{two-length, two-at-first, two-at-second}

@@ -19,7 +19,7 @@ use Rattle.moves.specs.Moves.{met, reached}
 use Rattle.column.proofs.Words.{mask}
 use Rattle.column.proofs.Registers.{bitAt-pack-all, length-register, register-lt, register-lay, register-apart, lay-ext, lay-lay, length-lay}
 use Rattle.windows.specs.Windows.{all}
-use Rattle.windows.specs.Steps.{Two}
+use Rattle.windows.specs.Code.Steps.{Two}
 use Rattle.windows.proofs.Lays.{lay-held, lay-swap}
 
 all-add : (a b : ℕ) (f : ℕ → Bool) (t : ℕ) → all (a + b) f t ≡ all a f t && all b f (t + a)

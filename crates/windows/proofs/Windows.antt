@@ -27,7 +27,7 @@ use Rattle.moves.specs.Moves.{joined, moved}
 use Rattle.column.proofs.Words.{mask}
 use Rattle.column.proofs.Registers.{bitAt-pack-all}
 use Rattle.windows.specs.Windows.{span, someLater, allLater}
-use Rattle.windows.specs.Steps.{widthOf}
+use Rattle.windows.specs.Code.Steps.{widthOf}
 
 -- ---- what was turned
 module _ {f : ℕ → Bool} {xs ys : List ℕ} (r : Turned f xs ys) where

@@ -1,4 +1,4 @@
 -- what the public functions leave in their slices
 pub mod Windows
--- what the steps on the way leave there
-pub mod Steps
+-- what only the steps of the code are about: no other crate names it
+pub mod Code

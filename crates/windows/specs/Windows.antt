@@ -1,7 +1,7 @@
 -- F, G, U and R on registers: what each leaves in the words of its slice.
 use mathlib.Core.Bool.{Bool, true, _&&_, _||_}
 use mathlib.Core.List.{List}
-use Prim.Native.Nat.{ℕ, zero, suc, _-_, _*_, _^_}
+use Prim.Native.Nat.{ℕ, zero, suc, _+_, _-_, _*_, _^_, _≤_}
 use lib.Dec.{ltb, eqb}
 use lib.ListN.{length, getD}
 use Rattle.lists.specs.Bits.{bitAt, pack, below}
@@ -32,6 +32,12 @@ third e xs = length xs - e
 -- in a list of n words one of them does not end before the next begins, or the list ends before e
 abbrev pub misplaced : ℕ → ℕ → ℕ → Bool
 misplaced d e n = ltb e d || ltb n e || ltb d (n - e) || ltb (e - d) (n - e)
+
+-- as a statement: none of them overlaps the next
+pub record Three (d e : ℕ) (xs : List ℕ) : Type 0 where
+  pub low : e ≤ length xs
+  pub high : length xs ≤ e + d
+  pub apart : d + length xs ≤ e + e
 
 -- the columns of U and R by the words of their operands a and b, m of each
 abbrev pub untilOf : ℕ → ℕ → ℕ → List ℕ → List ℕ → ℕ → Bool

@@ -9,8 +9,8 @@ ghost use Rattle.lists.specs.Choice.{pick};
 ghost use Rattle.interval.specs.Parts.{badInterval};
 ghost use Rattle.column.specs.Column.{register, flipped};
 ghost use Rattle.moves.specs.Moves.{moved};
-ghost use Rattle.windows.specs.Windows.{someLater, allLater, third, misplaced, untilOf, all, untilLater, releaseLater};
-ghost use Rattle.windows.specs.Steps.{widthOf, Eventually, Two, Three, untilParts};
+ghost use Rattle.windows.specs.Windows.{someLater, allLater, third, misplaced, untilOf, all, untilLater, releaseLater, Three};
+ghost use Rattle.windows.specs.Code.Steps.{widthOf, Eventually, Two, untilParts};
 use limits::MAX_PARTS;
 
 // ---- F and G: one register, the whole slice

@@ -3,7 +3,7 @@ use mathlib.Core.Path.{_≡_, refl, sym, _∙_}
 use Prim.Native.Nat.{_-_}
 use borrow.Author.Needs.{needs}
 use lib.ListN.{length, drop}
-use Rattle.lines.specs.Lines.{scanned}
+use Rattle.lines.specs.Code.Steps.{scanned}
 use Rattle.lines.proofs.Laws.{scan-none, scan-end, scan-more}
 use Rattle.lines.proofs.scan_line.Statement.{statement}
 use Rattle.lines.proofs.scan_line.Tie as tie

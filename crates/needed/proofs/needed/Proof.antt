@@ -7,7 +7,7 @@ use lib.Seq.{getD-take}
 use borrow.Author.Needs.{needs}
 use Rattle.table.specs.Nodes.{noNode}
 use Rattle.lists.proofs.Sequences.{length-mapped}
-use Rattle.needed.specs.Steps.{markNode}
+use Rattle.needed.specs.Code.Steps.{markNode}
 use Rattle.needed.proofs.Marking.{Marking, marking-start, marking-more, marking-done}
 use Rattle.needed.proofs.needed.Statement.{statement}
 use Rattle.needed.proofs.needed.Tie as tie

@@ -10,8 +10,7 @@ use Rattle.lists.specs.Bits.{below}
 use Rattle.mltl.specs.Mltl.{eventually, opposite}
 use Rattle.interval.specs.Parts.{badInterval}
 use Rattle.windows.proofs.Results.{interval-is, all-turned}
-use Rattle.operators.specs.Operators.{allLaid, oneFits}
-use Rattle.operators.specs.Steps.{Operand}
+use Rattle.operators.specs.Operators.{allLaid, oneFits, Operand}
 use Rattle.operators.proofs.Fits.{not-refused, one-is, places-fit, stays, turns}
 use Rattle.operators.proofs.Laws.{loaded}
 use Rattle.operators.proofs.put_all.Statement.{statement}

@@ -5,8 +5,7 @@ use borrow.Author.Needs.{needs}
 use borrow.Author.Tests.{not-false, not-true}
 use lib.Dec.{ltb}
 use lib.ListN.{length}
-use Rattle.operators.specs.Operators.{notLaid, oneFits}
-use Rattle.operators.specs.Steps.{Operand}
+use Rattle.operators.specs.Operators.{notLaid, oneFits, Operand}
 use Rattle.operators.proofs.Fits.{one-is, stays, turns}
 use Rattle.operators.proofs.Laws.{loaded}
 use Rattle.operators.proofs.put_not.Statement.{statement}

@@ -8,8 +8,7 @@ use lib.ListN.{length}
 use Rattle.mltl.specs.Mltl.{eventually}
 use Rattle.interval.specs.Parts.{badInterval}
 use Rattle.windows.proofs.Results.{interval-is, some-turned}
-use Rattle.operators.specs.Operators.{someLaid, oneFits}
-use Rattle.operators.specs.Steps.{Operand}
+use Rattle.operators.specs.Operators.{someLaid, oneFits, Operand}
 use Rattle.operators.proofs.Fits.{not-refused, one-is, places-fit, stays, turns}
 use Rattle.operators.proofs.Laws.{loaded}
 use Rattle.operators.proofs.put_some.Statement.{statement}

@@ -8,7 +8,8 @@ use lib.Seq.{length-take-le}
 use Rattle.lists.proofs.Bits.{digit-lt}
 use Rattle.lists.specs.Sequence.{ticks}
 use Rattle.lists.specs.Bits.{bitAt}
-use Rattle.rows.specs.Rows.{Put, rowsFrom, Fronted}
+use Rattle.rows.specs.Rows.{Put, rowsFrom}
+use Rattle.rows.specs.Code.Steps.{Fronted}
 use Rattle.rows.proofs.Laws.{rows-more, rows-none, put-length}
 use Rattle.rows.proofs.put_each.Statement.{statement}
 use Rattle.rows.proofs.put_each.Tie as tie

@@ -1,7 +1,7 @@
 -- `rows::put_front` meets its contract. Assumes nothing.
 use native.Mathlib.Omega.{arith}
 use borrow.Author.Tests.{lt-ltb, le-ltb}
-use Rattle.rows.specs.Rows.{front}
+use Rattle.rows.specs.Code.Steps.{front}
 use Rattle.rows.proofs.Laws.{put-then, fronted-put}
 use borrow.Author.Needs.{needs}
 use Rattle.rows.proofs.put_front.Statement.{statement}

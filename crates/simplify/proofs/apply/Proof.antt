@@ -1,6 +1,6 @@
 -- By the variants. Assumes nothing.
 use mathlib.Core.Path.{sym, ap, _∙_}
-use Rattle.simplify.specs.Passes.{applied}
+use Rattle.simplify.specs.Code.Passes.{applied}
 use borrow.Author.Needs.{needs}
 use Rattle.simplify.proofs.apply.Statement.{statement}
 use Rattle.simplify.proofs.apply.Tie as tie

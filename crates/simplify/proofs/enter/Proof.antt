@@ -1,7 +1,7 @@
 -- A node that is there, or one more. Assumes nothing.
 use native.Mathlib.Omega.{arith}
 use lib.ListN.{length-take}
-use Rattle.simplify.specs.Passes.{nodesOf}
+use Rattle.simplify.specs.Code.Passes.{nodesOf}
 use Rattle.simplify.proofs.Found.{find-most}
 use Rattle.simplify.proofs.Steps.{enter-old, enter-new}
 use borrow.Author.Needs.{needs}

@@ -5,7 +5,7 @@ use native.Mathlib.Omega.{arith}
 use lib.ListN.{length, take}
 use lib.Seq.{length-take-le, getD-take}
 use Rattle.table.specs.Nodes.{noNode}
-use Rattle.simplify.specs.Law.{sameNode}
+use Rattle.simplify.specs.Code.Law.{sameNode}
 use Rattle.lists.proofs.Sequences.{length-mapped}
 use Rattle.simplify.proofs.Found.{Looked, look-start, look-found, look-more, look-end}
 use borrow.Author.Needs.{needs}

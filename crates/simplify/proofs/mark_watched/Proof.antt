@@ -5,7 +5,7 @@ use native.Mathlib.Omega.{arith}
 use lib.ListN.{length}
 use Rattle.table.specs.Nodes.{noRule}
 use Rattle.lists.proofs.Sequences.{length-mapped}
-use Rattle.simplify.specs.Passes.{markRule}
+use Rattle.simplify.specs.Code.Passes.{markRule}
 use Rattle.lists.proofs.Loops.{Folded, folded-more}
 use borrow.Author.Needs.{needs}
 use Rattle.simplify.proofs.mark_watched.Statement.{statement}

@@ -4,7 +4,7 @@ use mathlib.Core.Path.{_≡_, refl}
 use native.Mathlib.Omega.{arith}
 use lib.ListN.{length}
 use Rattle.table.specs.Nodes.{noNode}
-use Rattle.simplify.specs.Passes.{noBuild, stepOf}
+use Rattle.simplify.specs.Code.Passes.{noBuild, stepOf}
 use Rattle.lists.proofs.Loops.{Folded, folded-more}
 use Rattle.simplify.proofs.Ready.{ready}
 use borrow.Author.Needs.{needs}

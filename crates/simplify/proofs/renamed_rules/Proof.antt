@@ -5,8 +5,8 @@ use native.Mathlib.Omega.{arith}
 use lib.ListN.{length, length-set}
 use Rattle.table.specs.Nodes.{noRule}
 use Rattle.lists.proofs.Sequences.{length-mapped}
-use Rattle.simplify.specs.Passes.{renamedRule}
-use Rattle.simplify.specs.Passes.{placesOf}
+use Rattle.simplify.specs.Code.Passes.{renamedRule}
+use Rattle.simplify.specs.Code.Passes.{placesOf}
 use Rattle.lists.proofs.Loops.{Mapped, mapped-more, mapped-done}
 use borrow.Author.Needs.{needs}
 use Rattle.simplify.proofs.renamed_rules.Statement.{statement}

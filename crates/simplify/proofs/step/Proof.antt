@@ -4,8 +4,8 @@ use mathlib.Core.Path.{ap, ap₂, _∙_}
 use borrow.Author.Needs.{needs}
 use Rattle.table.specs.Nodes.{opOf}
 use Rattle.table.specs.declared.Node.{Node}
-use Rattle.simplify.specs.Law.{law, lawAs}
-use Rattle.simplify.specs.Passes.{applied}
+use Rattle.simplify.specs.Code.Law.{law, lawAs}
+use Rattle.simplify.specs.Code.Passes.{applied}
 use Rattle.simplify.proofs.step.Statement.{statement}
 use Rattle.simplify.proofs.step.Tie as tie
 

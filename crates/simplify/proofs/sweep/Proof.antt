@@ -6,7 +6,7 @@ use lib.ListN.{length, getD}
 use Rattle.lists.specs.Bits.{bit}
 use Rattle.table.specs.Nodes.{noNode}
 use Rattle.lists.proofs.Sequences.{length-mapped}
-use Rattle.simplify.specs.Passes.{noBuild, keepOf, keepBy}
+use Rattle.simplify.specs.Code.Passes.{noBuild, keepOf, keepBy}
 use Rattle.lists.proofs.Loops.{Folded, folded-more}
 use Rattle.simplify.proofs.Arrays.{counted}
 use borrow.Author.Needs.{needs}

@@ -6,7 +6,7 @@ use borrow.Author.Needs.{needs}
 use lib.ListN.{length-append}
 use Rattle.lists.specs.Bits.{words}
 use Rattle.verdict.proofs.Answers.{cleared-is, told-is}
-use Rattle.verdict.specs.Steps.{Needs}
+use Rattle.verdict.specs.Code.Steps.{Needs}
 use Rattle.verdict.specs.Verdict.{enough}
 use Rattle.verdict.proofs.evaluate.Statement.{statement}
 use Rattle.verdict.proofs.evaluate.Tie as tie

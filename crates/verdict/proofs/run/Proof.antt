@@ -10,13 +10,13 @@ use Rattle.lists.proofs.Sequences.{length-mapped}
 use Rattle.table.specs.Nodes.{noNode}
 use Rattle.table.specs.Sound.{short}
 use Rattle.verdict.proofs.Runs.{maybe-by, run-more, run-start}
-use Rattle.verdict.specs.Steps.{Run}
+use Rattle.verdict.specs.Code.Steps.{Columns}
 use Rattle.verdict.specs.Verdict.{enough}
 use Rattle.verdict.proofs.run.Statement.{statement}
 use Rattle.verdict.proofs.run.Tie as tie
 
 abbrev Inv-loop : tie.InvT-loop
-Inv-loop marks upto older newer s₀ t n i₀ s i = Run i (t .nodes) marks (older ++ newer) s₀ s × (length s ≡ length s₀) × (i ≤ upto) × (length (t .nodes) ≡ 64) × (n ≡ length older + length newer)
+Inv-loop marks upto older newer s₀ t n i₀ s i = Columns i (t .nodes) marks (older ++ newer) s₀ s × (length s ≡ length s₀) × (i ≤ upto) × (length (t .nodes) ≡ 64) × (n ≡ length older + length newer)
 
 abbrev μ-loop : tie.MeasureT-loop
 μ-loop marks upto older newer s₀ t n i₀ s i = upto - i

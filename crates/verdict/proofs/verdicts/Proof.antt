@@ -7,7 +7,7 @@ use borrow.Author.Needs.{needs}
 use lib.ListN.{length}
 use Rattle.lists.specs.Choice.{first}
 use Rattle.table.specs.Nodes.{ruleAt}
-use Rattle.verdict.specs.Verdict.{numberOf, numberFor, wholeRows}
+use Rattle.verdict.specs.Verdict.{wholeNumber, wholeNumberFor, wholeRows}
 use Rattle.verdict.proofs.Answers.{accepts, ready-sound, refuses, WholeFits, whole-fits}
 use Rattle.verdict.proofs.verdicts.Statement.{statement}
 use Rattle.verdict.proofs.verdicts.Tie as tie
@@ -15,8 +15,8 @@ use Rattle.verdict.proofs.verdicts.Tie as tie
 abbrev start : tie.After-whole-number → tie.Start
 start c = c .before .before .before .before .before
 
-number : (c : tie.After-whole-number) → let a = start c .args in c .whole-number .result ≡ numberFor (a .t1) (a .rule) (a .states .now) (a .scratch .now) (a .out .now)
-unfolding numberOf
+number : (c : tie.After-whole-number) → let a = start c .args in c .whole-number .result ≡ wholeNumberFor (a .t1) (a .rule) (a .states .now) (a .scratch .now) (a .out .now)
+unfolding wholeNumber
 number c =
     let a = start c .args in
     c .whole-number .ensures

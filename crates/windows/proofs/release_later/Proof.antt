@@ -10,8 +10,7 @@ use Rattle.column.proofs.Parts.{part-op}
 use Rattle.column.specs.Column.{flipped}
 use Rattle.windows.proofs.Results.{fit-is, stays, turns, until-all}
 use Rattle.windows.proofs.Threes.{release-later-is}
-use Rattle.windows.specs.Steps.{Three}
-use Rattle.windows.specs.Windows.{misplaced, releaseLater, third}
+use Rattle.windows.specs.Windows.{misplaced, releaseLater, third, Three}
 use Rattle.windows.proofs.release_later.Statement.{statement}
 use Rattle.windows.proofs.release_later.Tie as tie
 

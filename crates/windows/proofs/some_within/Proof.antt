@@ -3,7 +3,7 @@ use Prim.Native.Nat.{_-_, _^_, _≤_}
 use native.Mathlib.Nat.{le-antisymm}
 use borrow.Author.Needs.{needs}
 use Rattle.windows.proofs.Windows.{some-start, some-twice, turned-length}
-use Rattle.windows.specs.Steps.{Eventually}
+use Rattle.windows.specs.Code.Steps.{Eventually}
 use Rattle.windows.proofs.some_within.Statement.{statement}
 use Rattle.windows.proofs.some_within.Tie as tie
 

@@ -8,8 +8,7 @@ use Rattle.interval.specs.Parts.{badInterval}
 use Rattle.windows.proofs.Results.{fit-is, stays, three-kept, turns}
 use Rattle.windows.proofs.Threes.{until-later-is}
 use Rattle.windows.proofs.Windows.{cut-12, cut-parts, cut-small, cut-width}
-use Rattle.windows.specs.Steps.{Three}
-use Rattle.windows.specs.Windows.{misplaced, untilLater}
+use Rattle.windows.specs.Windows.{misplaced, untilLater, Three}
 use Rattle.windows.proofs.until_later.Statement.{statement}
 use Rattle.windows.proofs.until_later.Tie as tie
 

@@ -6,7 +6,7 @@ use mathlib.Core.Path.{refl, _∙_, _≡_}
 use borrow.Author.Needs.{needs}
 use lib.ListN.{getD, length, take}
 use Rattle.windows.proofs.Threes.{parts-more, parts-none, turn-is, turn-length}
-use Rattle.windows.specs.Steps.{untilParts, widthOf}
+use Rattle.windows.specs.Code.Steps.{untilParts, widthOf}
 use Rattle.windows.proofs.until_parts.Statement.{statement}
 use Rattle.windows.proofs.until_parts.Tie as tie
 

@@ -12,7 +12,7 @@ use Rattle.pair.specs.Pair.{room}
 use Rattle.moves.specs.Moves.{met}
 use Rattle.windows.proofs.Untils.{two-length, until-start, until-twice}
 use Rattle.windows.specs.Windows.{third, all, untilOf}
-use Rattle.windows.specs.Steps.{Two}
+use Rattle.windows.specs.Code.Steps.{Two}
 use Rattle.windows.proofs.until_within.Statement.{statement}
 use Rattle.windows.proofs.until_within.Tie as tie
 

@@ -6,7 +6,7 @@ use mathlib.Core.Path.{_≡_}
 use borrow.Author.Needs.{needs}
 use lib.ListN.{length}
 use Rattle.windows.proofs.Windows.{some-start, turned-length, widen-more, width-more}
-use Rattle.windows.specs.Steps.{Eventually, widthOf}
+use Rattle.windows.specs.Code.Steps.{Eventually, widthOf}
 use Rattle.windows.proofs.widen.Statement.{statement}
 use Rattle.windows.proofs.widen.Tie as tie
 

@@ -1,0 +1,2 @@
+-- the scan of one line
+pub mod Steps

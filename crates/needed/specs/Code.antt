@@ -1,0 +1,2 @@
+-- the marks that the steps of the code add
+pub mod Steps

@@ -1,0 +1,2 @@
+-- a row in two parts
+pub mod Steps

@@ -1,0 +1,2 @@
+-- the delay of a node by those of its operands
+pub mod Steps
