@@ -7,6 +7,7 @@ use lib.ListN.{getD, length}
 use lib.Dec.{ltb, leb, eqb}
 use Rattle.limits.specs.Limits.{maxSignal, recordBytes, bookBytes}
 use Rattle.lists.specs.Choice.{pick}
+use Rattle.lists.specs.Sequence.{pairAt}
 use Rattle.table.specs.Nodes.{opOf, uses, usesOf}
 use Rattle.table.specs.declared.Uses.{Uses}
 use Rattle.book.specs.declared.Entry.{Entry}
@@ -16,20 +17,13 @@ pub record Bytes (s : List ℕ) : Type 0 where
   pub byte : (i : ℕ) → i < length s → getD s i 0 < 256
 
 -- ---- the fields of a record
--- a number of two bytes, the low one first
-abbrev pub joined : ℕ → ℕ → ℕ
-joined low high = low + 256 * high
-
-abbrev pub joinedAt : List ℕ → ℕ → ℕ
-joinedAt s i = joined (getD s i 0) (getD s (i + 1) 0)
-
 -- the bytes of a record from i on: kind, argument, lo, hi, left, right, next, and three that are to be zero
 abbrev pub entryFrom : List ℕ → ℕ → Entry
 entryFrom s i = record {
   kind = getD s i 0;
   arg = getD s (i + 1) 0;
-  lo = joinedAt s (i + 2);
-  hi = joinedAt s (i + 4);
+  lo = pairAt s (i + 2);
+  hi = pairAt s (i + 4);
   left = getD s (i + 6) 0;
   right = getD s (i + 7) 0;
   next = getD s (i + 8) 0;

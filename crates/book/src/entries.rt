@@ -7,28 +7,23 @@ ghost use Prim.Native.Nat.{_+_, _*_, _-_, _≤_, _<_};
 ghost use mathlib.Core.Bool.{true, false};
 ghost use lib.ListN.{length};
 ghost use Rattle.limits.specs.Limits.{recordBytes};
-ghost use Rattle.book.specs.Entries.{joined, joinedAt, entryFrom, entryOf, usesIn, isNode, nameOf, formedBy, badForm, badLength, badHead};
+ghost use Rattle.lists.specs.Sequence.{pairAt};
+ghost use Rattle.book.specs.Entries.{entryFrom, entryOf, usesIn, isNode, nameOf, formedBy, badForm, badLength, badHead};
 use crate::Entry;
 
-fn join(low: u8, high: u8) -> u16
-    ensures { λ r. ⌜ r ≡ joined low high ⌝ }
-{
-    low as u16 + 256 * (high as u16)
-}
-
-fn joined_at(s: &[u8], at: usize) -> u16
+fn pair_at(s: &[u8], at: usize) -> u16
     requires { ⌜ at + 2 ≤ length (now s) ⌝ }
-    ensures { λ r. ⌜ r ≡ joinedAt (now (s .entry)) at ⌝ }
+    ensures { λ r. ⌜ r ≡ pairAt (now (s .entry)) at ⌝ }
 {
-    join(s[at], s[at + 1])
+    lists::pair_of(s[at], s[at + 1])
 }
 
 fn entry_from(s: &[u8], at: usize) -> Entry
     requires { ⌜ at + recordBytes ≤ length (now s) ⌝ }
     ensures { λ r. ⌜ r ≡ entryFrom (now (s .entry)) at ⌝ }
 {
-    let lo = joined_at(s, at + 2);
-    let hi = joined_at(s, at + 4);
+    let lo = pair_at(s, at + 2);
+    let hi = pair_at(s, at + 4);
     Entry {
         kind: s[at],
         arg: s[at + 1],

@@ -8,7 +8,7 @@ use borrow.Author.Tests.{lt-ltb, le-ltb, le-leb, lt-leb, eq-eqb}
 use lib.Dec.{eqb}
 use lib.ListN.{length, getD, take, drop, length-append, length-drop, List·getD-append}
 use lib.Seq.{ext-getD, getD-take}
-use Rattle.lists.specs.Sequence.{ticks}
+use Rattle.lists.specs.Sequence.{ticks, pairAt}
 use Rattle.lists.proofs.Tests.{_also_}
 use Rattle.lists.proofs.Sequences.{length-ticks, getD-ticks, ticks-ext}
 use Rattle.table.specs.declared.Node.{Node}
@@ -16,7 +16,7 @@ use Rattle.table.specs.declared.Rule.{Rule}
 use Rattle.table.specs.declared.Table.{Table}
 use Rattle.table.specs.Nodes.{noNode, noRule, noTable, nodeAt, ruleAt}
 use Rattle.table.specs.Sound.{Sound}
-use Rattle.flat.specs.Flat.{nodeByte, ruleByte, tableByte, bytesHolding, written, byteAt, pairAt, nodeFrom, ruleFrom, unpadded, tableFrom}
+use Rattle.flat.specs.Flat.{nodeByte, ruleByte, tableByte, bytesHolding, written, byteAt, nodeFrom, ruleFrom, unpadded, tableFrom}
 
 -- ---- the answers of `read_table`
 module _ (b : List ℕ) where

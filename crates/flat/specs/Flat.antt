@@ -7,7 +7,7 @@ use lib.ListN.{length, getD, drop}
 use lib.Dec.{ltb, leb, eqb}
 use Rattle.limits.specs.Limits.{maxNodes, maxRules, tableBytes}
 use Rattle.lists.specs.Choice.{pick}
-use Rattle.lists.specs.Sequence.{ticks}
+use Rattle.lists.specs.Sequence.{ticks, pairAt}
 use Rattle.table.specs.Nodes.{noTable, nodeAt, ruleAt}
 use Rattle.table.specs.declared.Node.{Node}
 use Rattle.table.specs.declared.Rule.{Rule}
@@ -37,9 +37,6 @@ written t out = pick (leb tableBytes (length out)) (bytesHolding t ++ drop table
 -- ---- from bytes
 abbrev pub byteAt : List ℕ → ℕ → ℕ
 byteAt b i = getD b i 0
-
-abbrev pub pairAt : List ℕ → ℕ → ℕ
-pairAt b i = byteAt b i + 256 * byteAt b (i + 1)
 
 abbrev pub nodeFrom : List ℕ → ℕ → Node
 nodeFrom b i = record {

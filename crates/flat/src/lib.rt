@@ -3,8 +3,8 @@ ghost use mathlib.Core.Path.{_≡_};
 ghost use Prim.Native.Nat.{_+_, _*_, _≤_, _<_};
 ghost use lib.ListN.{length};
 ghost use Rattle.limits.specs.Limits.{maxNodes, maxRules, tableBytes, sessionBytes};
-ghost use Rattle.lists.specs.Sequence.{ticks};
-ghost use Rattle.flat.specs.Flat.{nodeByte, ruleByte, tableByte, written, pairAt, nodeFrom, ruleFrom, unpadded, tableFrom};
+ghost use Rattle.lists.specs.Sequence.{ticks, pairAt};
+ghost use Rattle.flat.specs.Flat.{nodeByte, ruleByte, tableByte, written, nodeFrom, ruleFrom, unpadded, tableFrom};
 ghost use Rattle.flat.specs.Sessions.{fourAt, putFour, sessionFrom, sessionWritten, renewed};
 use limits::MAX_NODES;
 use limits::MAX_RULES;
@@ -22,17 +22,11 @@ const SEEN: usize = RULE + 4;
 
 const UPPER: usize = SEEN + 4;
 
-fn pair(low: u8, high: u8) -> u16
-    ensures { λ r. ⌜ r ≡ low + 256 * high ⌝ }
-{
-    low as u16 + 256 * (high as u16)
-}
-
 fn pair_at(b: &[u8], at: usize) -> u16
     requires { ⌜ at + 2 ≤ length (now b) ⌝ }
     ensures { λ r. ⌜ r ≡ pairAt (now (b .entry)) at ⌝ }
 {
-    pair(b[at], b[at + 1])
+    lists::pair_of(b[at], b[at + 1])
 }
 
 fn node_from(b: &[u8], i: usize) -> Node

@@ -41,7 +41,7 @@ mod Result
 -- the code's arrays hold the lists of the passes
 mod Arrays
 -- at each turn of the first pass there is space, and no interval passes the limit of a table
-mod Ready
+mod Space
 -- what the functions return makes the promised table
 mod Together
 -- what the code's steps come to

@@ -6,7 +6,7 @@ use lib.ListN.{length}
 use Rattle.table.specs.Nodes.{noNode}
 use Rattle.simplify.specs.Code.Passes.{noBuild, stepOf}
 use Rattle.lists.proofs.Loops.{Folded, folded-more}
-use Rattle.simplify.proofs.Ready.{ready}
+use Rattle.simplify.proofs.Space.{ready}
 use borrow.Author.Needs.{needs}
 use Rattle.simplify.proofs.rebuild.Statement.{statement}
 use Rattle.simplify.proofs.rebuild.Tie as tie

@@ -3,17 +3,17 @@ use borrow.Author.Needs.{needs}
 use Rattle.book.proofs.entries.entry_from.Statement.{statement}
 use Rattle.book.proofs.entries.entry_from.Tie as tie
 
-add-joined-at : tie.Need-add-joined-at
-add-joined-at c = search needs
+add-pair-at : tie.Need-add-pair-at
+add-pair-at c = search needs
 
-joined-at-requires : tie.Need-joined-at-requires
-joined-at-requires c κs = search needs
+pair-at-requires : tie.Need-pair-at-requires
+pair-at-requires c κs = search needs
 
-add-joined-at-2 : tie.Need-add-joined-at-2
-add-joined-at-2 c = search needs
+add-pair-at-2 : tie.Need-add-pair-at-2
+add-pair-at-2 c = search needs
 
-joined-at-requires-2 : tie.Need-joined-at-requires-2
-joined-at-requires-2 c κs = search needs
+pair-at-requires-2 : tie.Need-pair-at-requires-2
+pair-at-requires-2 c κs = search needs
 
 shared-slice-read-t7 : tie.Need-shared-slice-read-t7
 shared-slice-read-t7 c = search needs
@@ -67,10 +67,10 @@ pub entry-from-spec : {M : Type 1} → statement M
 entry-from-spec =
     tie.close
     (tie.spec
-    add-joined-at
-    joined-at-requires
-    add-joined-at-2
-    joined-at-requires-2
+    add-pair-at
+    pair-at-requires
+    add-pair-at-2
+    pair-at-requires-2
     shared-slice-read-t7
     add-t5
     shared-slice-read-t9
