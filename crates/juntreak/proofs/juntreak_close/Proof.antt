@@ -8,19 +8,29 @@ use borrow.Author.Needs.{needs}
 use Rattle.juntreak.proofs.juntreak_close.Statement.{statement}
 use Rattle.juntreak.proofs.juntreak_close.Tie as tie
 
-small : (c : tie.After-struct-known) → c .before .before .before .before .before .before .before .«close» .result .count ≤ 4095
+-- places on the way: the entry, seen from the session read; the session read, seen from the close; the close, seen from the end
+abbrev start : tie.After-read-session → tie.Start
+start c = c .before .before .before .before .before
+
+abbrev known : tie.After-close → tie.After-read-session
+known c = c .before .before .before
+
+abbrev closed : tie.After-struct-known → tie.After-close
+closed c = c .before .before .before .before .before .before .before
+
+small : (c : tie.After-close) → c .«close» .result .count ≤ 4095
 small c =
-    let f = c .before .before .before .before .before .before .before in
-    let a = f .before .before .before .before .before .before .before .before .args in
-    count-within 4095 (f .«close» .ensures) (close-count (f .before .before .before .read-session .result) (a .history .now) (a .scratch .now) (a .out .now))
+    let s = known c in
+    let a = start s .args in
+    count-within 4095 (c .«close» .ensures) (close-count (s .read-session .result) (a .history .now) (a .scratch .now) (a .out .now))
 
 returns : tie.Need-returns
 returns c =
-    let f = c .before .before .before .before .before .before .before in
-    let s = f .before .before .before in
-    let a = s .before .before .before .before .before .args in
+    let f = closed c in
+    let s = known f in
+    let a = start s .args in
     called-by (λ (z : Session). closing z (a .history .now) (a .scratch .now) (a .out .now)) (f .«close» .ensures) (s .read-session .ensures) (c .before .put-count .ensures)
 
 pub juntreak-close-spec : {M : Type 1} → statement M
 juntreak-close-spec =
-    tie.close (tie.spec (search needs) (search needs) (search needs) (search needs) (λ c. omega (arith, small c)) (λ c. omega (arith, small c)) (search needs) (search needs) returns)
+    tie.close (tie.spec (search needs) (search needs) (search needs) (search needs) (λ c. omega (arith, small (closed c))) (λ c. omega (arith, small (closed c))) (search needs) (search needs) returns)

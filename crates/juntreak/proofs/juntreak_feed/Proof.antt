@@ -8,19 +8,29 @@ use borrow.Author.Needs.{needs}
 use Rattle.juntreak.proofs.juntreak_feed.Statement.{statement}
 use Rattle.juntreak.proofs.juntreak_feed.Tie as tie
 
-small : (c : tie.After-struct-known) → c .before .before .before .before .before .before .before .before .before .«feed» .result .count ≤ 1024
+-- places on the way: the entry, seen from the session read; the session read, seen from the feed; the feed, seen from the end
+abbrev start : tie.After-read-session → tie.Start
+start c = c .before .before .before .before .before .before
+
+abbrev known : tie.After-feed → tie.After-read-session
+known c = c .before .before .before .before
+
+abbrev fed : tie.After-struct-known → tie.After-feed
+fed c = c .before .before .before .before .before .before .before .before .before
+
+small : (c : tie.After-feed) → c .«feed» .result .count ≤ 1024
 small c =
-    let f = c .before .before .before .before .before .before .before .before .before in
-    let a = f .before .before .before .before .before .before .before .before .before .before .args in
-    count-within 1024 (f .«feed» .ensures) (feed-count (f .before .before .before .before .read-session .result) (a .block .now) (a .history .now) (a .scratch .now) (a .out .now))
+    let s = known c in
+    let a = start s .args in
+    count-within 1024 (c .«feed» .ensures) (feed-count (s .read-session .result) (a .block .now) (a .history .now) (a .scratch .now) (a .out .now))
 
 returns : tie.Need-returns
 returns c =
-    let f = c .before .before .before .before .before .before .before .before .before in
-    let s = f .before .before .before .before in
-    let a = s .before .before .before .before .before .before .args in
+    let f = fed c in
+    let s = known f in
+    let a = start s .args in
     called-by (λ (z : Session). feeding z (a .block .now) (a .history .now) (a .scratch .now) (a .out .now)) (f .«feed» .ensures) (s .read-session .ensures) (c .before .put-count .ensures)
 
 pub juntreak-feed-spec : {M : Type 1} → statement M
 juntreak-feed-spec =
-    tie.close (tie.spec (search needs) (search needs) (search needs) (search needs) (λ c. omega (arith, small c)) (λ c. omega (arith, small c)) (search needs) (search needs) (search needs) returns)
+    tie.close (tie.spec (search needs) (search needs) (search needs) (search needs) (λ c. omega (arith, small (fed c))) (λ c. omega (arith, small (fed c))) (search needs) (search needs) (search needs) returns)

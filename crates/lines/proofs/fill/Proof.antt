@@ -19,14 +19,23 @@ abbrev μ-loop : tie.MeasureT-loop
 loop-holds : tie.Need-loop-holds Inv-loop μ-loop
 loop-holds c = reached-none _ _ _ _ _
 
+-- places on the way: the entry, seen from the loop; the line read, seen from its test
+abbrev start : tie.At-loop Inv-loop μ-loop → tie.Start Inv-loop μ-loop
+start c = c .before .before .before
+
+abbrev line-read : tie.After-is-state Inv-loop μ-loop → tie.After-scan-line Inv-loop μ-loop
+line-read c = c .before .before .before .before
+
 -- there is a byte to read, and room in the block
-tests : (c : tie.After-scan-line Inv-loop μ-loop)
-    → (c .before .before .loop .i < length (c .before .before .before .before .before .args .part .now)) × (c .before .before .loop .k < length (c .before .before .loop .block))
+tests : (c : tie.In-loop Inv-loop μ-loop) → let p = c .before .loop in (p .i < length (start (c .before) .args .part .now)) × (p .k < length (p .block))
 tests c =
-    let p = c .before .before .loop in
-    let a = ltb (p .i) (length (c .before .before .before .before .before .args .part .now)) in
+    let p = c .before .loop in
+    let a = ltb (p .i) (length (start (c .before) .args .part .now)) in
     let b = ltb (p .k) (length (p .block)) in
-    (ltb-true _ _ (true-left a b (c .before .loop-test .taken)), ltb-true _ _ (true-right a b (c .before .loop-test .taken)))
+    (ltb-true _ _ (true-left a b (c .loop-test .taken)), ltb-true _ _ (true-right a b (c .loop-test .taken)))
+
+room : (c : tie.After-struct-known2 Inv-loop μ-loop) → let p = line-read (c .before .before) .before .before .loop in p .k < length (p .block)
+room c = tests (line-read (c .before .before) .before) .1
 
 scan-line-requires : tie.Need-scan-line-requires Inv-loop μ-loop
 scan-line-requires c κs = search needs
@@ -37,7 +46,7 @@ same-length c = search needs
 returns : tie.Need-returns Inv-loop μ-loop
 returns c =
     let q = c .before .before .before in
-    part-read (q .before .before .loop .inv) (q .scan-line .result) (q .scan-line .ensures) (tests q .1) (not-true _ (c .if1 .taken))
+    part-read (q .before .before .loop .inv) (q .scan-line .result) (q .scan-line .ensures) (tests (q .before) .1) (not-true _ (c .if1 .taken))
 
 is-state-requires : tie.Need-is-state-requires Inv-loop μ-loop
 is-state-requires c κs = search needs
@@ -51,24 +60,24 @@ same-length-2 c = search needs
 returns-2 : tie.Need-returns-2 Inv-loop μ-loop
 returns-2 c =
     let n = c .before .before in
-    let q = n .before .before .before .before in
+    let q = line-read n in
     rw (c .start .ensures)
-    (bad-read (q .before .before .loop .inv) (q .scan-line .result) (q .scan-line .ensures) (tests q .1) (not-false _ (n .before .if1 .left))
+    (bad-read (q .before .before .loop .inv) (q .scan-line .result) (q .scan-line .ensures) (tests (q .before) .1) (not-false _ (n .before .if1 .left))
     (sym (n .is-state .ensures) ∙ not-true _ (c .before .if2 .taken)))
 
 cast-block : tie.Need-cast-block Inv-loop μ-loop
 cast-block c =
     let n = c .before .before in
-    search (needs, value-fits (n .before .before .before .before .scan-line .result .line) (sym (n .is-state .ensures) ∙ not-false _ (c .before .if2 .left)))
+    search (needs, value-fits (line-read n .scan-line .result .line) (sym (n .is-state .ensures) ∙ not-false _ (c .before .if2 .left)))
 
 mul-block : tie.Need-mul-block Inv-loop μ-loop
-mul-block c = search (needs, tests (c .before .before .before .before .before .before) .1)
+mul-block c = search (needs, room c)
 
 slice-write-block : tie.Need-slice-write-block Inv-loop μ-loop
-slice-write-block c = search (needs, tests (c .before .before .before .before .before .before) .1)
+slice-write-block c = search (needs, room c)
 
 add-k : tie.Need-add-k Inv-loop μ-loop
-add-k c = search (needs, tests (c .before .before .before .before .before .before) .1)
+add-k c = search (needs, room c)
 
 start-requires-2 : tie.Need-start-requires-2 Inv-loop μ-loop
 start-requires-2 c κs = search needs
@@ -76,16 +85,16 @@ start-requires-2 c κs = search needs
 loop-less : tie.Need-loop-less Inv-loop μ-loop
 loop-less c =
     let n = c .before .before .before in
-    let q = n .before .before .before .before in
-    further (q .before .before .loop .inv) (q .scan-line .result) (q .scan-line .ensures) (tests q .1) (not-false _ (n .before .if1 .left))
-    (tests q .0)
+    let q = line-read n in
+    further (q .before .before .loop .inv) (q .scan-line .result) (q .scan-line .ensures) (tests (q .before) .1) (not-false _ (n .before .if1 .left))
+    (tests (q .before) .0)
 
 loop-again : tie.Need-loop-again Inv-loop μ-loop
 loop-again c =
     let n = c .before .before .before in
-    let q = n .before .before .before .before in
+    let q = line-read n in
     rw (c .start2 .ensures)
-    (more-read (q .before .before .loop .inv) (q .scan-line .result) (q .scan-line .ensures) (tests q .1) (not-false _ (n .before .if1 .left))
+    (more-read (q .before .before .loop .inv) (q .scan-line .result) (q .scan-line .ensures) (tests (q .before) .1) (not-false _ (n .before .if1 .left))
     (sym (n .is-state .ensures) ∙ not-false _ (c .before .before .if2 .left)))
 
 same-length-3 : tie.Need-same-length-3 Inv-loop μ-loop

@@ -14,6 +14,10 @@ Inv-loop s at i₀ l₀ i l = scanned (drop i s) i l ≡ scanned (drop i₀ s) i
 abbrev μ-loop : tie.MeasureT-loop
 μ-loop s at i₀ l₀ i l = length s - i
 
+-- the entry, seen from the loop
+abbrev start : tie.At-loop Inv-loop μ-loop → tie.Start Inv-loop μ-loop
+start c = c .before .before
+
 loop-holds : tie.Need-loop-holds Inv-loop μ-loop
 loop-holds c = refl
 
@@ -25,9 +29,9 @@ add-t11 c = search needs
 
 returns : tie.Need-returns Inv-loop μ-loop
 returns c =
-    let p = c .before .before .before .loop in
-    let a = c .before .before .before .before .before .args in
-    sym (scan-end (a .part .now) (p .i) (p .l) (c .before .before .loop-test .taken) (c .if1 .taken)) ∙ p .inv
+    let t = c .before .before in
+    let p = t .before .loop in
+    sym (scan-end (start (t .before) .args .part .now) (p .i) (p .l) (t .loop-test .taken) (c .if1 .taken)) ∙ p .inv
 
 with-byte-requires : tie.Need-with-byte-requires Inv-loop μ-loop
 with-byte-requires c κs = tt
@@ -40,15 +44,15 @@ loop-less c = search needs
 
 loop-again : tie.Need-loop-again Inv-loop μ-loop
 loop-again c =
-    let p = c .before .before .before .before .loop in
-    let s = c .before .before .before .before .before .before .args .part .now in
-    rw (c .with-byte .ensures) (sym (scan-more s (p .i) (p .l) (c .before .before .before .loop-test .taken) (c .before .if1 .left)) ∙ p .inv)
+    let t = c .before .before .before in
+    let p = t .before .loop in
+    let s = start (t .before) .args .part .now in
+    rw (c .with-byte .ensures) (sym (scan-more s (p .i) (p .l) (t .loop-test .taken) (c .before .if1 .left)) ∙ p .inv)
 
 returns-2 : tie.Need-returns-2 Inv-loop μ-loop
 returns-2 c =
     let p = c .before .loop in
-    let a = c .before .before .before .args in
-    sym (scan-none (a .part .now) (p .i) (p .l) (c .loop-test .left)) ∙ p .inv
+    sym (scan-none (start (c .before) .args .part .now) (p .i) (p .l) (c .loop-test .left)) ∙ p .inv
 
 pub scan-line-spec : {M : Type 1} → statement M
 scan-line-spec =

@@ -28,8 +28,9 @@ join-moved-spec =
     (λ c. (swept-none, search needs))
     (search needs) (search needs) (search needs) (search needs) (search needs) (search needs) (search needs)
     (λ c.
-    let l = c .before .before .before .before .loop in
-    let a = c .before .before .before .before .before .before .before .before .args in
+    let o = c .before .before .before .before in
+    let l = o .loop in
+    let a = o .before .before .before .before .args in
     (joined-next (a .by) (length (a .s .now)) (omega arith) (omega arith) (c .before .before .slice-known2 .given (l .w) .fits) (c .near-word .ensures) (l .inv .0), search needs))
     (search needs) (search needs) (search needs) (search needs) (search needs)
     (λ c. set-long (c .before .before .before .before .loop .inv .0) _ _)

@@ -11,6 +11,7 @@ meet-moved-spec =
     (tie.spec
     (search needs) (search needs) (search needs) (search needs) (search needs) (search needs) (search needs) (search needs)
     (λ c.
-    let w = c .before .before .before .before .before .before in
+    let k = c .before .before in
+    let w = k .before .before .before .before in
     let a = w .before .before .before .before .args in
-    vanishes (w .meet-words .ensures) (omega arith) (c .before .before .clear .ensures) (λ t h. met-past (a .by) (a .s .now) t (omega arith))))
+    vanishes (w .meet-words .ensures) (omega arith) (k .clear .ensures) (λ t h. met-past (a .by) (a .s .now) t (omega arith))))

@@ -27,8 +27,9 @@ move-words-spec =
     (λ c. (swept-none, search needs))
     (search needs) (search needs) (search needs) (search needs) (search needs)
     (λ c.
-    let l = c .before .before .before .loop in
-    let a = c .before .before .before .before .before .before .args in
+    let o = c .before .before .before in
+    let l = o .loop in
+    let a = o .before .before .before .args in
     (swept-next (l .inv .0) (omega arith) (moved-next (l .inv .0) (length (a .s .now)) (a .by) (c .near-word .ensures)), search needs))
     (search needs) (search needs) (search needs)
     (λ c. set-long (c .before .before .before .loop .inv .0) _ _)

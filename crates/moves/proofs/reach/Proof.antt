@@ -33,8 +33,9 @@ reach-spec =
     (search needs) (search needs) (search needs) (search needs) (search needs) (search needs) (search needs) (search needs) (search needs)
     (λ c. less (c .before .before .before .before .loop-test .taken))
     (λ c.
-    let l = c .before .before .before .before .before .loop in
-    let r = c .before .before .before .before .before .before .before .before in
+    let o = c .before .before .before .before .before in
+    let l = o .loop in
+    let r = o .before .before .before in
     let a = r .before .before .args in
     (reached-next (a .by) (a .d) (r .room-of .result) (omega arith) (omega arith) (λ i. c .before .before .slice-known3 .given i .fits) (c .near-word .ensures) (l .inv .0), search needs, l .inv .2))
     (search needs) (search needs) (search needs) (search needs) (search needs) (search needs) (search needs) (search needs)

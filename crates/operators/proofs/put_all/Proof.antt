@@ -43,8 +43,9 @@ part-all-later-end c = let h = operand (c .before .before .before .before) .enou
 
 returns-2 : tie.Need-returns-2
 returns-2 c =
-    let u = c .before .before .all-later in
-    let p = c .before .before .before .before .before .before in
+    let k = c .before .before in
+    let u = k .all-later in
+    let p = k .before .before .before .before in
     let o = p .before .before in
     let a = start (o .before) .args in
     let i = interval-is (not-refused (oneFits (a .a) (a .b) (a .m) (length (a .s .now))) (a .lo) (a .hi) (fits o)) in

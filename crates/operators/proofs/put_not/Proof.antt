@@ -34,8 +34,9 @@ part-complement-end c = let h = operand (c .before .before .before .before) .eno
 
 returns-2 : tie.Need-returns-2
 returns-2 c =
-    let u = c .before .before .complement in
-    let p = c .before .before .before .before .before .before in
+    let k = c .before .before in
+    let u = k .complement in
+    let p = k .before .before .before .before in
     let o = p .before .before in
     let a = start (o .before) .args in
     turns (a .s .now) (notLaid (a .a) (a .b) (a .m) (a .n) (a .s .now)) (fits o)

@@ -11,8 +11,18 @@ use Rattle.operators.proofs.Reaching.{first-load, second-load, release-
 use Rattle.operators.proofs.put_release.Statement.{statement}
 use Rattle.operators.proofs.put_release.Tie as tie
 
+-- places on the way: the entry, seen from the test; the loads of the left and of the right operand; the test's other arm, seen from behind them
 abbrev start : tie.After-bad-interval → tie.Start
 start c = c .before .before .before
+
+abbrev left-loaded : tie.After-load2 → tie.After-load
+left-loaded c = c .before .before .before .before
+
+abbrev right-loaded : tie.After-slice-known3 → tie.After-load2
+right-loaded c = c .before .before
+
+abbrev fitting : tie.After-slice-known3 → tie.Else1
+fitting c = left-loaded (right-loaded c) .before .before
 
 test : (c : tie.After-bad-interval) → let a = start c .args in
     (c .before .four-fit .result && not (c .bad-interval .result)) ≡ (fourFit (a .a) (a .c) (a .b) (a .l) (a .w) (a .m) (length (a .s .now)) && not (badInterval (a .lo) (a .hi)))
@@ -31,31 +41,32 @@ add-e : tie.Need-add-e
 add-e c = let h = four c .work in search needs
 
 mul-release-later : tie.Need-mul-release-later
-mul-release-later c = let h = four (c .before .before .before .before .before .before .before .before) in let i = h .result in let j = h .copy in let k = h .work in search needs
+mul-release-later c = let h = four (fitting c) in let i = h .result in let j = h .copy in let k = h .work in search needs
 
 sub-release-later : tie.Need-sub-release-later
-sub-release-later c = let h = four (c .before .before .before .before .before .before .before .before) in let i = h .result in let j = h .copy in search needs
+sub-release-later c = let h = four (fitting c) in let i = h .result in let j = h .copy in search needs
 
 part-release-later-start : tie.Need-part-release-later-start
-part-release-later-start c = let h = four (c .before .before .before .before .before .before .before .before) in let i = h .result in let j = h .copy in search needs
+part-release-later-start c = let h = four (fitting c) in let i = h .result in let j = h .copy in search needs
 
 part-release-later-end : tie.Need-part-release-later-end
-part-release-later-end c = let h = four (c .before .before .before .before .before .before .before .before) .work in search needs
+part-release-later-end c = let h = four (fitting c) .work in search needs
 
 sub-release-later-2 : tie.Need-sub-release-later-2
-sub-release-later-2 c = let i = four (c .before .before .before .before .before .before .before .before .before) .result in search needs
+sub-release-later-2 c = let i = four (fitting (c .before)) .result in search needs
 
 sub-release-later-3 : tie.Need-sub-release-later-3
-sub-release-later-3 c = let h = four (c .before .before .before .before .before .before .before .before .before) in let i = h .result in let j = h .copy in search needs
+sub-release-later-3 c = let h = four (fitting (c .before)) in let i = h .result in let j = h .copy in search needs
 
 returns-2 : tie.Need-returns-2
 returns-2 c =
-    let q = c .before .before .before .before .before .before in
-    let p = q .before .before .before .before in
+    let u = c .before .before in
+    let q = right-loaded (u .before .before) in
+    let p = left-loaded q in
     let o = p .before .before in
     let a = start (o .before) .args in
     turns (a .s .now) (releaseLaid (a .a) (a .c) (a .b) (a .l) (a .w) (a .m) (a .lo) (a .hi) (a .n) (a .s .now)) (fits o)
-    (release-laid (four o) (p .load .ensures) (q .load2 .ensures) (a .lo) (a .hi) (not-refused (fourFit (a .a) (a .c) (a .b) (a .l) (a .w) (a .m) (length (a .s .now))) (a .lo) (a .hi) (fits o)) (a .n) (c .before .before .release-later .ensures))
+    (release-laid (four o) (p .load .ensures) (q .load2 .ensures) (a .lo) (a .hi) (not-refused (fourFit (a .a) (a .c) (a .b) (a .l) (a .w) (a .m) (length (a .s .now))) (a .lo) (a .hi) (fits o)) (a .n) (u .release-later .ensures))
 
 pub put-release-spec : {M : Type 1} → statement M
 put-release-spec =

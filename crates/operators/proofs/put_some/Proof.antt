@@ -41,8 +41,9 @@ part-some-later-end c = let h = operand (c .before .before .before .before) .eno
 
 returns-2 : tie.Need-returns-2
 returns-2 c =
-    let u = c .before .before .some-later in
-    let p = c .before .before .before .before .before .before in
+    let k = c .before .before in
+    let u = k .some-later in
+    let p = k .before .before .before .before in
     let o = p .before .before in
     let a = start (o .before) .args in
     let i = interval-is (not-refused (oneFits (a .a) (a .b) (a .m) (length (a .s .now))) (a .lo) (a .hi) (fits o)) in

@@ -3,7 +3,7 @@ use Prim.Native.Nat.{_+_, _-_, _*_, _≤_}
 use native.Mathlib.Omega.{arith}
 use mathlib.Core.Path.{_≡_, refl, sym, _∙_}
 use borrow.Author.Needs.{needs}
-use lib.ListN.{length}
+use lib.ListN.{length, take}
 use lib.Seq.{length-take-le}
 use Rattle.lists.proofs.Bits.{digit-lt}
 use Rattle.lists.specs.Sequence.{ticks}
@@ -20,6 +20,20 @@ Inv-loop out₀ name tick words count front₀ k₀ at₀ i₀ out front k at i 
 abbrev μ-loop : tie.MeasureT-loop
 μ-loop out₀ name tick words count front₀ k₀ at₀ i₀ out front k at i = count - i
 
+-- places on the way: the entry, seen from before the loop; a turn of the loop; the row of that turn, put
+abbrev start : tie.After-slice-known2 Inv-loop μ-loop → tie.Start Inv-loop μ-loop
+start c = c .before .before .before .before .before .before .before .before
+
+abbrev turn : tie.After-verdict-at Inv-loop μ-loop → tie.In-loop Inv-loop μ-loop
+turn c = c .before .before .before
+
+abbrev row-put : tie.After-renew-arg Inv-loop μ-loop → tie.After-put-row Inv-loop μ-loop
+row-put c = c .before .before .before
+
+-- the front is in its buffer
+front-length : (c : tie.At-loop Inv-loop μ-loop) → length (take (c .loop .k) (c .loop .front)) ≡ c .loop .k
+front-length c = let f = c .loop .inv .2 in length-take-le _ _ (omega (arith, f .short, f .within))
+
 slice-aggregate-front : tie.Need-slice-aggregate-front Inv-loop μ-loop
 slice-aggregate-front c = search needs
 
@@ -28,8 +42,9 @@ put-front-requires c κs = search needs
 
 loop-holds : tie.Need-loop-holds Inv-loop μ-loop
 loop-holds c =
-    let e : c .before .before .before .before .before .before .before .before .args .tick + 0 ≡ c .before .before .before .before .before .before .before .before .args .tick = omega arith in
-    (rows-none _ _ _ (bitAt (c .before .before .before .before .before .before .before .before .args .words .now)), omega arith, rw e (c .before .before .put-front .ensures), omega arith, refl)
+    let a = start c .args in
+    let e : a .tick + 0 ≡ a .tick = omega arith in
+    (rows-none _ _ _ (bitAt (a .words .now)), omega arith, rw e (c .before .before .put-front .ensures), omega arith, refl)
 
 add-t : tie.Need-add-t Inv-loop μ-loop
 add-t c = search needs
@@ -38,31 +53,29 @@ slice-reshare-prefix-put-row : tie.Need-slice-reshare-prefix-put-row Inv-loop μ
 slice-reshare-prefix-put-row c = search needs
 
 slice-aggregate-put-row : tie.Need-slice-aggregate-put-row Inv-loop μ-loop
-slice-aggregate-put-row c =
-    let f = c .before .before .before .loop .inv .2 in
-    sym (length-take-le _ _ (omega (arith, f .short, f .within)))
+slice-aggregate-put-row c = sym (front-length (c .before .before .before))
 
 verdict-at-requires : tie.Need-verdict-at-requires Inv-loop μ-loop
 verdict-at-requires c κs = search needs
 
 put-row-requires : tie.Need-put-row-requires Inv-loop μ-loop
 put-row-requires c κs =
-    let p = c .before .before .before .before .loop in
-    let r = c .before .before .before .before .before .before .before .before .before .before .before .before .before .pre in
-    let f = p .inv .2 in
-    let t = c .before .before .before .loop-test .taken in
-    (omega (arith, r .0, p .inv .1, p .inv .4, t), rw (length-take-le (p .k) (p .front) (omega (arith, f .short, f .within))) (f .short), rw (c .verdict-at .ensures) (digit-lt (bitAt (c .before .before .before .before .before .before .before .before .before .before .before .before .before .args .words .now) (p .i))))
+    let l = turn c .before in
+    let s = start (l .before) in
+    let i = l .loop .inv in
+    (omega (arith, s .pre .0, i .1, i .4, turn c .loop-test .taken), rw (front-length l) (i .2 .short), rw (c .verdict-at .ensures) (digit-lt (bitAt (s .args .words .now) (l .loop .i))))
 
 add-renew : tie.Need-add-renew Inv-loop μ-loop
 add-renew c = search needs
 
 renew-requires : tie.Need-renew-requires Inv-loop μ-loop
 renew-requires c κs =
-    let p = c .before .before .before .before .before .before .before .before .loop in
+    let l = turn (row-put c .before) .before in
+    let p = l .loop in
+    let s = start (l .before) in
     let f = p .inv .2 in
-    let a = c .before .before .before .before .before .before .before .before .before .before .before .before .before .before .before .before .before in
-    let e : a .args .tick + p .i + 1 - 1 ≡ a .args .tick + p .i = omega arith in
-    (f .within, a .pre .1, omega arith, rw e f)
+    let e : s .args .tick + p .i + 1 - 1 ≡ s .args .tick + p .i = omega arith in
+    (f .within, s .pre .1, omega arith, rw e f)
 
 add-i : tie.Need-add-i Inv-loop μ-loop
 add-i c = search needs
@@ -72,12 +85,13 @@ loop-less c = search needs
 
 loop-again : tie.Need-loop-again Inv-loop μ-loop
 loop-again c =
-    let w = c .before .before .before .before .before .before in
-    let p = c .before .before .before .before .before .before .before .before .before .before .before .loop in
-    let a = c .before .before .before .before .before .before .before .before .before .before .before .before .before .before .before .before .before .before .before .before in
-    let t = c .before .before .before .before .before .before .before .before .before .before .loop-test .taken in
-    let e : a .args .tick + (p .i + 1) ≡ a .args .tick + p .i + 1 = omega arith in (
-      rows-more (a .args .name .now) (a .args .out .now) (p .out) (w .put-row .last .0) (a .args .tick) (p .at) (w .put-row .result) (p .i) (bitAt (a .args .words .now)) (omega (arith, a .pre .3, t)) (p .inv .0) _ _ (p .inv .2 .bytes) (c .before .before .before .before .before .before .before .verdict-at .ensures) (w .put-row .ensures .0),
+    let w = row-put (c .before .before .before) in
+    let t = turn (w .before) in
+    let p = t .before .loop in
+    let s = start (t .before .before) in
+    let a = s .args in
+    let e : a .tick + (p .i + 1) ≡ a .tick + p .i + 1 = omega arith in (
+      rows-more (a .name .now) (a .out .now) (p .out) (w .put-row .last .0) (a .tick) (p .at) (w .put-row .result) (p .i) (bitAt (a .words .now)) (omega (arith, s .pre .3, t .loop-test .taken)) (p .inv .0) _ _ (p .inv .2 .bytes) (w .before .verdict-at .ensures) (w .put-row .ensures .0),
       omega (arith, w .put-row .ensures .1, p .inv .1),
       rw e (c .before .before .renew .ensures),
       omega arith,
@@ -89,9 +103,9 @@ same-length c = search needs
 
 returns : tie.Need-returns Inv-loop μ-loop
 returns c =
-    let p = c .before .before .loop in
-    let e : p .i ≡ c .before .before .before .before .before .before .before .before .before .before .before .args .count = omega (arith, p .inv .3, c .before .loop-test .left) in
-    rw e at (p .inv .0)
+    let l = c .before .before in
+    let e : l .loop .i ≡ start (l .before) .args .count = omega (arith, l .loop .inv .3, c .before .loop-test .left) in
+    rw e at (l .loop .inv .0)
 
 pub put-each-spec : {M : Type 1} → statement M
 put-each-spec =

@@ -28,25 +28,28 @@ fits c =
     let e = sym (test (c .before)) ∙ c .if1 .left in
     (ltb-false 4096 (a .count) (or-left (ltb 4096 (a .count)) (ltb 18446744073709551615 (a .tick + a .count)) e), ltb-false 18446744073709551615 (a .tick + a .count) (or-right (ltb 4096 (a .count)) (ltb 18446744073709551615 (a .tick + a .count)) e))
 
+-- the digits of the name
+few : (c : tie.After-decimal) → c .decimal .result ≤ 5
+few c =
+    let s = c .before .before .before in
+    places-most 5 (s .args .name) (c .decimal .result) (omega arith) (omega (arith, s .fits .name .fits)) (c .decimal .ensures .1 .0)
+
 put-each-requires : tie.Need-put-each-requires
 put-each-requires c κs =
-    let e = c .before .before .before .before .before in
-    let a = e .before in
-    let f = fits e in
-    let d = c .before .before .before .decimal in
-    let n : 131072 ≡ length (a .args .text .now) = search needs in
-    let m : 64 ≡ length (a .args .words .now) = search needs in
-    let k : d .result ≤ 5 = places-most 5 (a .args .name) (d .result) (omega arith) (omega (arith, a .fits .name .fits)) (d .ensures .1 .0) in
-    (omega (arith, n, f .0), omega (arith, d .ensures .0 .1, k), omega (arith, m, f .0), omega (arith, f .1))
+    let d = c .before .before .before in
+    let e = d .before .before in
+    let a = e .before .args in
+    let n : 131072 ≡ length (a .text .now) = search needs in
+    let m : 64 ≡ length (a .words .now) = search needs in
+    (omega (arith, n, fits e .0), omega (arith, d .decimal .ensures .0 .1, few d), omega (arith, m, fits e .0), omega (arith, fits e .1))
 
 returns-2 : tie.Need-returns-2
 returns-2 c =
-    let e = c .before .before .before .before .before .before in
-    let a = e .before in
-    let d = c .before .before .before .before .decimal in
-    let k = places-most 5 (a .args .name) (d .result) (omega arith) (omega (arith, a .fits .name .fits)) (d .ensures .1 .0) in
-    let p = d .ensures .1 .1 ∙ decimal-is (a .args .name) (d .result) (omega (arith, k)) (d .ensures .1 .0) in
-    put-fitting (a .args .name) (a .args .tick) (a .args .words .now) (a .args .count) (a .args .text .now) (c .put-each .last .0) (c .put-each .result) _ (sym (test a) ∙ e .if1 .left) p (c .put-each .ensures)
+    let d = c .before .before .before .before in
+    let e = d .before .before in
+    let a = e .before .args in
+    let p = d .decimal .ensures .1 .1 ∙ decimal-is (a .name) (d .decimal .result) (omega (arith, few d)) (d .decimal .ensures .1 .0) in
+    put-fitting (a .name) (a .tick) (a .words .now) (a .count) (a .text .now) (c .put-each .last .0) (c .put-each .result) _ (sym (test (e .before)) ∙ e .if1 .left) p (c .put-each .ensures)
 
 pub put-rows-spec : {M : Type 1} → statement M
 put-rows-spec = tie.close (tie.spec (search needs) returns (search needs) (search needs) (search needs) put-each-requires returns-2)

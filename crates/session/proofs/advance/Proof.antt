@@ -8,11 +8,21 @@ use Rattle.session.proofs.Answers.{fit-short, kept-short, fit-rule, fit
 use Rattle.session.proofs.advance.Statement.{statement}
 use Rattle.session.proofs.advance.Tie as tie
 
+-- places on the way: the entry, seen from the table and from the count kept; the counts, seen from the verdicts; the verdicts, seen from the new count
+abbrev entry : tie.After-t → tie.Start
+entry c = c .before .before .before .before .before
+
 abbrev start : tie.After-lesser → tie.Start
-start c = c .before .before .before .before .before .before .before
+start c = entry (c .before .before)
+
+abbrev counted : tie.After-write-verdicts → tie.After-over2
+counted c = c .before .before .before .before .before
+
+abbrev written : tie.After-lesser2 → tie.After-write-verdicts
+written c = c .before .before .before .before .before .before
 
 after : tie.Need-add-after
-after c = let s = c .before .before .before .before .before .before in omega (arith, s .pre .few, s .pre .seen)
+after c = let s = entry (c .before) in omega (arith, s .pre .few, s .pre .seen)
 
 count : tie.Need-sub-count
 count c =
@@ -37,8 +47,7 @@ writes c κs =
 
 keeps : tie.Need-keep-requires
 keeps c κs =
-    let w = c .before .before .before .before .before .before in
-    let l = w .before .before .before .before .before .before .before in
+    let l = counted (written c) .before .before in
     let s = start l in
     let a = s .args in
     let g : a .d ≤ 4095 = fit-short (s .pre .fit) in
@@ -51,14 +60,14 @@ keeps c κs =
 fits : tie.Need-cast-with-seen
 fits c =
     let k = c .before .before in
-    let l = k .before .before .before .before .before .before .before .before .before .before .before .before .before .before in
+    let l = counted (written (k .before)) .before .before in
     omega (arith, start l .pre .seen)
 
 returns : tie.Need-returns
 returns c =
     let k = c .before .before .before in
-    let w = k .before .before .before .before .before .before .before in
-    let o = w .before .before .before .before .before in
+    let w = written (k .before) in
+    let o = counted w in
     let l = o .before .before in
     rw (c .with-seen .ensures)
     (feed-is (start l .pre) (l .lesser .ensures) (o .before .over .ensures) (o .over2 .ensures) (k .before .lesser2 .ensures) (lent-part (l .lesser .result) (start l .args .history .now)) (w .write-verdicts .ensures) (k .keep .ensures))
@@ -66,6 +75,6 @@ returns c =
 pub advance-spec : {M : Type 1} → statement M
 advance-spec =
     tie.close
-    (tie.spec (λ c. omega (arith, fit-rule (c .before .before .before .before .before .pre .fit))) (λ c. fit-rule (c .before .before .before .before .before .pre .fit))
-    (λ c. omega (arith, fit-node (c .before .before .before .before .before .pre .fit))) (search needs) after (search needs) (search needs) (search needs) count (search needs) (search needs) end writes
+    (tie.spec (λ c. omega (arith, fit-rule (entry c .pre .fit))) (λ c. fit-rule (entry c .pre .fit))
+    (λ c. omega (arith, fit-node (entry c .pre .fit))) (search needs) after (search needs) (search needs) (search needs) count (search needs) (search needs) end writes
     (search needs) keeps fits (search needs) (search needs) (search needs) (search needs) returns)

@@ -11,11 +11,18 @@ use Rattle.session.proofs.Answers.{judged-words, zeros-behind}
 use Rattle.session.proofs.write_verdicts.Statement.{statement}
 use Rattle.session.proofs.write_verdicts.Tie as tie
 
+-- places on the way: the entry, seen from the judging; the judging, seen from the clearing
+abbrev start : tie.After-judge → tie.Start
+start c = c .before .before .before .before .before .before .before
+
+abbrev judged : tie.After-clear → tie.After-judge
+judged c = c .before .before .before .before .before .before
+
 returns : tie.Need-returns
 returns c =
     let k = c .before .before in
-    let j = k .before .before .before .before .before .before in
-    let s = j .before .before .before .before .before .before .before in
+    let j = judged k in
+    let s = start j in
     let w = judged-words (s .pre) (j .judge .ensures) in
     let a = s .args in
     let f = holds (formulaAt (a .t .nodes) (a .place)) (a .older .now ++ a .newer .now) in (

@@ -23,8 +23,9 @@ gathered-apart-spec =
     (λ c. (number-none _, search needs))
     (search needs) (search needs) (search needs) (search needs) (search needs) (search needs)
     (λ c.
-    let l = c .before .before .before .loop in
-    let a = c .before .before .before .before .before .before .args in (
+    let o = c .before .before .before in
+    let l = o .loop in
+    let a = o .before .before .before .args in (
       ap₂ (λ (x y : ℕ). bitOr x (y * 2 ^ l .j % 2 ^ 64)) (l .inv .0) (c .digit-of .ensures ∙ ap (λ (y : ℕ). digit (bit y (a .i))) (c .before .state-at .ensures))
           ∙ number-more (l .j) (λ k. signalColumn (a .i) (a .older .now ++ a .newer .now) (a .from + k)) (search needs),
       search needs,

@@ -22,17 +22,23 @@ abbrev μ-loop : tie.MeasureT-loop
 loop-holds : tie.Need-loop-holds Inv-loop μ-loop
 loop-holds c = (omega arith, search (needs, length-mapped), (c .no-build .ensures))
 
+-- the entry, seen from the loop
+abbrev start : tie.At-loop Inv-loop μ-loop → tie.Start Inv-loop μ-loop
+start c = c .before .before
+
 keep-requires : tie.Need-keep-requires Inv-loop μ-loop
 keep-requires c κs =
-    let l = c .before .before .before .loop in
-    let a = c .before .before .before .before .before .args in
+    let o = c .before .before .before in
+    let l = o .loop in
+    let a = start o .args in
     let k = counted (a .marks) (a .t2) (l .i) (omega arith) (l .inv .2) in
     record { count = omega (arith, k .count); done = omega (arith, k .done) }
 
 loop-again : tie.Need-loop-again Inv-loop μ-loop
 loop-again c =
-    let l = c .before .before .before .before .loop in
-    let a = c .before .before .before .before .before .before .args in
+    let o = c .before .before .before .before in
+    let l = o .loop in
+    let a = start o .args in
     let k = counted (a .marks) (a .t2) (l .i) (omega arith) (l .inv .2) in (
       omega arith,
       l .inv .1,
@@ -44,7 +50,7 @@ loop-again c =
 returns : tie.Need-returns Inv-loop μ-loop
 returns c =
     let l = c .before .loop in
-    let e : l .i ≡ c .before .before .before .args .count = omega arith in
+    let e : l .i ≡ start (c .before) .args .count = omega arith in
     rw e at (l .inv .2)
 
 pub sweep-spec : {M : Type 1} → statement M

@@ -14,9 +14,17 @@ use Rattle.verdict.proofs.evaluate.Tie as tie
 marks-for-requires : tie.Need-marks-for-requires
 marks-for-requires c κs = c .before .before .before .before .pre .place
 
+-- places on the way: the entry, seen from the marks; the run, seen from the copy
+abbrev start : tie.After-marks-for → tie.Start
+start c = c .before .before .before .before .before
+
+abbrev ran : tie.After-copy-out-arg2 → tie.After-run
+ran c = c .before .before .before .before
+
 run-requires : tie.Need-run-requires
 run-requires c κs =
-    let s = c .before .before .before .before .before .before in
+    let m = c .before in
+    let s = start m in
     let a = s .args in
     let h = s .pre in
     let e : a .k ≡ a .k + 1 - 1 = omega arith in
@@ -26,33 +34,38 @@ run-requires c κs =
       fitting = h .fitting;
       short = h .short;
       enough = h .scratch-words;
-      needs = subst (λ (w : ℕ). Needs (a .t .nodes) w (c .before .marks-for .result)) e (c .before .marks-for .ensures);
+      needs = subst (λ (w : ℕ). Needs (a .t .nodes) w (m .marks-for .result)) e (m .marks-for .ensures);
     }
 
 mul-copy-out : tie.Need-mul-copy-out
-mul-copy-out c = omega (arith, c .before .before .before .before .before .before .before .before .before .before .pre .place)
+mul-copy-out c =
+    let r = c .before .before .before in
+    omega (arith, start (r .before .before) .pre .place)
 
 copy-out-requires : tie.Need-copy-out-requires
 copy-out-requires c κs =
-    let s = c .before .before .before .before .before .before .before .before .before .before .before in
+    let r = ran c in
+    let s = start (r .before .before) in
     let h = s .pre in
     let long = length-append (s .args .older .now) (s .args .newer .now) in
-    let e = c .before .before .before .before .run .kept .1 .1 .1 .1 .1 .0 in
+    let e = r .run .kept .1 .1 .1 .1 .1 .0 in
     (omega (arith, h .place, h .short, h .ticks, h .scratch-words), omega (arith, h .out-words))
 
 returns : tie.Need-returns
 returns c =
-    let b = c .before .before .before .before .before .before in
+    let l = c .before .before in
+    let b = l .before .before .before .before in
     let o = b .before .before .before .before in
-    let run = o .before .before .before .before .before in
-    let s = run .before .before .before .before .before .before .before in
+    let n = ran (o .before) in
+    let m = n .before .before in
+    let s = start m in
     let a = s .args in
     let h = s .pre in
-    let r = run .run in
+    let r = n .run in
     let e : (a .count + 63) / 64 - 0 ≡ words (a .count) = omega arith in (
-      told-is (a .out .now) (a .k) (a .count) ((a .count + 63) / 64 - 0) e (h .ticks) (h .out-words) (run .before .before .marks-for .ensures .top) (r .ensures)
+      told-is (a .out .now) (a .k) (a .count) ((a .count + 63) / 64 - 0) e (h .ticks) (h .out-words) (m .marks-for .ensures .top) (r .ensures)
           (omega (arith, h .place, h .short, h .scratch-words, r .kept .1 .1 .1 .1 .1 .0)) (o .copy-out .ensures) (b .keep-below .ensures),
-      cleared-is (a .scratch .now) (r .last .1 .1 .1 .1 .1 .0) (omega (arith, h .scratch-words, r .kept .1 .1 .1 .1 .1 .0)) (c .before .before .clear .ensures) (r .ensures .high),
+      cleared-is (a .scratch .now) (r .last .1 .1 .1 .1 .1 .0) (omega (arith, h .scratch-words, r .kept .1 .1 .1 .1 .1 .0)) (l .clear .ensures) (r .ensures .high),
     )
 
 pub evaluate-spec : {M : Type 1} → statement M

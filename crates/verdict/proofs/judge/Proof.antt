@@ -14,20 +14,22 @@ use Rattle.verdict.proofs.judge.Tie as tie
 places : (s : tie.Start) → length (s .args .t .nodes) ≡ 64
 places s = search (needs, length-mapped)
 
+-- the entry, seen from the test
+abbrev start : tie.After-has-enough → tie.Start
+start c = c .before .before .before .before .before .before
+
 -- what both tests say
-tests : (c : tie.After-has-enough) → (c .before .fits-to .result && c .has-enough .result)
-    ≡ ready (c .before .before .before .before .before .before .args .t) (c .before .before .before .before .before .before .args .k)
-    (c .before .before .before .before .before .before .args .older .now ++ c .before .before .before .before .before .before .args .newer .now)
-    (c .before .before .before .before .before .before .args .count) (c .before .before .before .before .before .before .args .scratch .now) (c .before .before .before .before .before .before .args .out .now)
+tests : (c : tie.After-has-enough) → let a = start c .args in (c .before .fits-to .result && c .has-enough .result) ≡ ready (a .t) (a .k) (a .older .now ++ a .newer .now) (a .count) (a .scratch .now) (a .out .now)
 tests c =
-    let a = c .before .before .before .before .before .before .args in
+    let a = start c .args in
     ready-is (a .t) (a .k) (a .older .now) (a .newer .now) (a .count) (a .scratch .now) (a .out .now) (c .before .fits-to .ensures) (c .has-enough .ensures)
 
 evaluate-requires : tie.Need-evaluate-requires
 evaluate-requires c κs =
     let b = c .before .before in
-    let s = b .before .before .before .before .before .before .before in
-    ready-out (s .args .t) (s .args .k) (s .args .older .now ++ s .args .newer .now) (s .args .count) (s .args .scratch .now) (s .args .out .now) (places s) (sym (tests (b .before)) ∙ b .if1 .taken)
+    let s = start (b .before) in
+    let a = s .args in
+    ready-out (a .t) (a .k) (a .older .now ++ a .newer .now) (a .count) (a .scratch .now) (a .out .now) (places s) (sym (tests (b .before)) ∙ b .if1 .taken)
 
 returns : tie.Need-returns
 returns c =

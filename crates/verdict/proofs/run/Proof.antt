@@ -21,13 +21,21 @@ Inv-loop marks upto older newer s₀ t n i₀ s i = Columns i (t .nodes) marks (
 abbrev μ-loop : tie.MeasureT-loop
 μ-loop marks upto older newer s₀ t n i₀ s i = upto - i
 
+-- places on the way: the entry, seen from the loop; a turn, seen from its step
+abbrev start : tie.At-loop Inv-loop μ-loop → tie.Start Inv-loop μ-loop
+start c = c .before .before .before .before
+
+abbrev turn : tie.After-step-if-arg Inv-loop μ-loop → tie.In-loop Inv-loop μ-loop
+turn c = c .before .before .before
+
 step-if-requires : tie.Need-step-if-requires Inv-loop μ-loop
 step-if-requires c κs =
-    let l = c .before .before .before .before .loop in
-    let b = c .before .before .before .before .before .before .before .before in
+    let t = turn c in
+    let l = t .before .loop in
+    let b = start (t .before) in
     let h = b .pre in
     let i = l .inv in
-    let less : l .i < b .args .upto = c .before .before .before .loop-test .taken in
+    let less : l .i < b .args .upto = t .loop-test .taken in
     let p = h .places in
     let q = h .enough in
     record {
@@ -39,14 +47,15 @@ step-if-requires c κs =
 
 loop-again : tie.Need-loop-again Inv-loop μ-loop
 loop-again c =
-    let l = c .before .before .before .before .before .before .before .loop in
-    let b = c .before .before .before .before .before .before .before .before .before .before .before in
+    let k = c .before .before in
+    let st = k .step-if in
+    let t = turn (k .before) in
+    let l = t .before .loop in
+    let b = start (t .before) in
     let a = b .args in
     let h = b .pre in
     let i = l .inv in
-    let k = c .before .before in
-    let st = k .step-if in
-    let less : l .i < a .upto = c .before .before .before .before .before .before .loop-test .taken in
+    let less : l .i < a .upto = t .loop-test .taken in
     let p = h .places in
     let q = h .enough in (
       run-more (a .upto - 1) (l .i) (omega arith) (omega arith) (omega arith) (omega arith) (st .kept .1 .0) (h .short) (h .fitting (l .i) less) (h .needs) (i .0)

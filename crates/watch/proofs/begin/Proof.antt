@@ -20,9 +20,10 @@ start-requires c κs = search needs
 
 returns : tie.Need-returns
 returns c =
-    let s = c .before .before .before .before .before .before .simplify in (
-      rw (c .start .ensures, c .before .before .open .ensures) (begins (c .before .before .before .before .before .before .before .args .t) (s .result) (s .ensures) _),
-      record { room = omega arith; ticks = omega arith; counted = rw (c .before .before .open .ensures, opened-unseen (s .result .table) 0) (omega arith) },
+    let o = c .before .before in
+    let s = o .before .before .before .before in (
+      rw (c .start .ensures, o .open .ensures) (begins (s .before .args .t) (s .simplify .result) (s .simplify .ensures) _),
+      record { room = omega arith; ticks = omega arith; counted = rw (o .open .ensures, opened-unseen (s .simplify .result .table) 0) (omega arith) },
     )
 
 pub begin-spec : {M : Type 1} → statement M

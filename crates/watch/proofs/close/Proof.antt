@@ -12,31 +12,37 @@ use Rattle.watch.proofs.close.Tie as tie
 close-requires : tie.Need-close-requires
 close-requires c κs = search needs
 
+-- the entry, seen from the call of close
+abbrev start : tie.After-close-arg3 → tie.Start
+start c = c .before .before .before .before
+
 -- the buffers
-sizes : (c : tie.After-close-arg3)
-    → (4095 ≤ length (c .before .before .before .before .args .history .now)) × (5280 ≤ length (c .before .before .before .before .args .scratch .now)) × (64 ≤ length (c .before .before .before .before .args .out .now))
+sizes : (c : tie.After-close-arg3) → (4095 ≤ length (start c .args .history .now)) × (5280 ≤ length (start c .args .scratch .now)) × (64 ≤ length (start c .args .out .now))
 sizes c =
-    let h : 4095 ≡ length (c .before .before .before .before .args .history .now) = search needs in
-    let x : 5280 ≡ length (c .before .before .before .before .args .scratch .now) = search needs in
-    let o : 64 ≡ length (c .before .before .before .before .args .out .now) = search needs in
+    let a = start c .args in
+    let h : 4095 ≡ length (a .history .now) = search needs in
+    let x : 5280 ≡ length (a .scratch .now) = search needs in
+    let o : 64 ≡ length (a .out .now) = search needs in
     (omega (arith, h), omega (arith, x), omega (arith, o))
 
 returns : tie.Need-returns
 returns c =
-    let s = c .before .before .before .before .before .before .before in
-    let z = sizes (c .before .before .before) in
-    let a = c .before .before .close in
-    close-never (s .args .p) (s .args .history .now) (s .args .scratch .now) (s .args .out .now) (a .result) _ _ (a .ensures) (s .pre) (z .0) (z .1) (z .2) [] (c .if1 .taken)
+    let l = c .before .before in
+    let s = start (l .before) in
+    let z = sizes (l .before) in
+    let a = s .args in
+    close-never (a .p) (a .history .now) (a .scratch .now) (a .out .now) (l .close .result) _ _ (l .close .ensures) (s .pre) (z .0) (z .1) (z .2) [] (c .if1 .taken)
 
 put-rows-requires : tie.Need-put-rows-requires
 put-rows-requires c κs = search needs
 
 returns-2 : tie.Need-returns-2
 returns-2 c =
-    let s = c .before .before .before .before .before .before .before .before .before .before in
-    let z = sizes (c .before .before .before .before .before .before) in
-    let a = c .before .before .before .before .before .close in
-    close-always (s .args .p) (s .args .history .now) (s .args .scratch .now) (s .args .out .now) (a .result) _ _ (a .ensures) (s .pre) (z .0) (z .1) (z .2) _ _ _ (c .put-rows .ensures)
+    let l = c .before .before .before .before .before in
+    let s = start (l .before) in
+    let z = sizes (l .before) in
+    let a = s .args in
+    close-always (a .p) (a .history .now) (a .scratch .now) (a .out .now) (l .close .result) _ _ (l .close .ensures) (s .pre) (z .0) (z .1) (z .2) _ _ _ (c .put-rows .ensures)
 
 pub close-spec : {M : Type 1} → statement M
 close-spec = tie.close (tie.spec close-requires returns put-rows-requires returns-2)

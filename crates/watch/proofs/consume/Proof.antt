@@ -17,8 +17,21 @@ Inv-loop part block₀ history₀ scratch₀ out₀ text₀ p₀ at₀ block his
 abbrev μ-loop : tie.MeasureT-loop
 μ-loop part block₀ history₀ scratch₀ out₀ text₀ p₀ at₀ block history scratch out text p at = length part - at
 
+-- places on the way: the entry, seen from the loop; a turn, seen from its step; the step, seen from the write
+abbrev start : tie.At-loop Inv-loop μ-loop → tie.Start Inv-loop μ-loop
+start c = c .before .before .before
+
+abbrev turn : tie.After-step Inv-loop μ-loop → tie.In-loop Inv-loop μ-loop
+turn c = c .before .before .before .before .before .before
+
+abbrev stepped : tie.After-write Inv-loop μ-loop → tie.After-step Inv-loop μ-loop
+stepped c = c .before .before .before .before .before .before
+
 loop-holds : tie.Need-loop-holds Inv-loop μ-loop
-loop-holds c = (c .before .before .pre .0, c .before .before .pre .1, through-none (c .before .before .args .first) (c .before .before .args .part .now) (c .before .before .args .history .now) (c .before .before .args .block .now))
+loop-holds c =
+    let s = c .before .before in
+    let a = s .args in
+    (s .pre .0, s .pre .1, through-none (a .first) (a .part .now) (a .history .now) (a .block .now))
 
 step-requires : tie.Need-step-requires Inv-loop μ-loop
 step-requires c κs = search needs
@@ -31,40 +44,46 @@ ended-requires c κs = search needs
 
 -- the block keeps its length
 kept : (c : tie.After-step Inv-loop μ-loop) → length (c .step .last .1 .1 .1 .0) ≡ 1024
-kept c = search (needs, c .before .before .before .before .before .before .before .loop .inv .1)
+kept c = search (needs, turn c .before .loop .inv .1)
+
+same : (c : tie.After-step Inv-loop μ-loop) → length (c .step .last .1 .1 .1 .0) ≡ length (start (turn c .before) .args .block .now)
+same c = kept c ∙ sym (start (turn c .before) .pre .1)
 
 same-length : tie.Need-same-length Inv-loop μ-loop
-same-length c = kept (c .before .before .before .before .before .before .before .before) ∙ sym (c .before .before .before .before .before .before .before .before .before .before .before .before .before .before .before .before .before .before .pre .1)
+same-length c = same (stepped (c .before .before))
 
 returns : tie.Need-returns Inv-loop μ-loop
 returns c = consumed-ended _ _ _ _ _ _ _ (c .ended .ensures .0)
 
 same-length-2 : tie.Need-same-length-2 Inv-loop μ-loop
-same-length-2 c = kept (c .before .before .before .before .before .before .before .before .before) ∙ sym (c .before .before .before .before .before .before .before .before .before .before .before .before .before .before .before .before .before .before .before .pre .1)
+same-length-2 c = same (stepped (c .before .before .before))
 
 returns-2 : tie.Need-returns-2 Inv-loop μ-loop
 returns-2 c = consumed-ended _ _ _ _ _ _ _ (not-true _ (c .if2 .taken))
 
 loop-less : tie.Need-loop-less Inv-loop μ-loop
 loop-less c =
-    let w = c .before .before .before .before .before .before .before .before .before .step .ensures .further (c .before .before .before .before .before .before .before .before .before .before .before .before .before .before .before .loop-test .taken) in
+    let o = stepped (c .before .before .before) in
+    let w = o .step .ensures .further (turn o .loop-test .taken) in
     omega (arith, w .0, w .1)
 
 loop-again : tie.Need-loop-again Inv-loop μ-loop
 loop-again c =
     let g = not-false _ (c .if2 .left) in
-    let s = c .before .before .before .before .before .before .before .before .before .step in
-    let q = c .before .before .before .before .before .before .before .before .before .before .before .before .before .before .before .before .loop in
-    let a = c .before .before .before .before .before .before .before .before .before .before .before .before .before .before .before .before .before .before .before .args in
-    (s .ensures .ready g, kept (c .before .before .before .before .before .before .before .before .before), through-step (a .first) (a .part .now) (a .history .now) (a .block .now) (q .at) (q .p) (q .history) (q .block) _ _ _ (s .result) (c .before .before .before .before .before .before .before .before .before .before .before .before .before .before .before .loop-test .taken) (q .inv .2) (s .ensures) g)
+    let o = stepped (c .before .before .before) in
+    let s = o .step in
+    let t = turn o in
+    let q = t .before .loop in
+    let a = start (t .before) .args in
+    (s .ensures .ready g, kept o, through-step (a .first) (a .part .now) (a .history .now) (a .block .now) (q .at) (q .p) (q .history) (q .block) _ _ _ (s .result) (t .loop-test .taken) (q .inv .2) (s .ensures) g)
 
 same-length-3 : tie.Need-same-length-3 Inv-loop μ-loop
-same-length-3 c = c .before .loop .inv .1 ∙ sym (c .before .before .before .before .pre .1)
+same-length-3 c = c .before .loop .inv .1 ∙ sym (start (c .before) .pre .1)
 
 returns-3 : tie.Need-returns-3 Inv-loop μ-loop
 returns-3 c =
     let q = c .before .loop in
-    let a = c .before .before .before .before .args in
+    let a = start (c .before) .args in
     record { ready = λ g. q .inv .0; right = through-all (a .first) (a .part .now) (a .history .now) (a .block .now) (q .at) (q .p) (q .history) (q .block) (c .loop-test .left) (q .inv .2) }
 
 pub consume-spec : {M : Type 1} → statement M

@@ -10,13 +10,17 @@ use borrow.Author.Needs.{needs}
 use Rattle.watch.proofs.feed.Statement.{statement}
 use Rattle.watch.proofs.feed.Tie as tie
 
+-- the entry, seen from the call of feed
+abbrev start : tie.After-feed-arg4 → tie.Start
+start c = c .before .before .before .before .before .before .before
+
 -- the buffers
-sizes : (c : tie.After-feed-arg4)
-    → (4095 ≤ length (c .before .before .before .before .before .before .before .args .history .now)) × (5280 ≤ length (c .before .before .before .before .before .before .before .args .scratch .now)) × (16 ≤ length (c .before .before .before .before .before .before .before .args .out .now))
+sizes : (c : tie.After-feed-arg4) → (4095 ≤ length (start c .args .history .now)) × (5280 ≤ length (start c .args .scratch .now)) × (16 ≤ length (start c .args .out .now))
 sizes c =
-    let h : 4095 ≡ length (c .before .before .before .before .before .before .before .args .history .now) = search needs in
-    let x : 5280 ≡ length (c .before .before .before .before .before .before .before .args .scratch .now) = search needs in
-    let o : 64 ≡ length (c .before .before .before .before .before .before .before .args .out .now) = search needs in
+    let a = start c .args in
+    let h : 4095 ≡ length (a .history .now) = search needs in
+    let x : 5280 ≡ length (a .scratch .now) = search needs in
+    let o : 64 ≡ length (a .out .now) = search needs in
     (omega (arith, h), omega (arith, x), omega (arith, o))
 
 slice-aggregate-feed : tie.Need-slice-aggregate-feed
@@ -30,29 +34,36 @@ put-feed-requires c κs = search needs
 
 returns : tie.Need-returns
 returns c =
-    let s = c .before .before .before .before .before .before .before .before .before .before .before .before .before in
-    let z = sizes (c .before .before .before .before .before .before) in
-    let a = c .before .before .before .before .before .feed in
-    fed-refused (s .args .p) (s .args .at) (s .args .history .now) (s .args .block .now) (s .args .scratch .now) (s .args .out .now) (a .result) _ _ _ (s .args .text .now) (c .put-feed .last .0) (c .put-feed .result)
-    (a .ensures) (s .pre .0) (s .pre .1) (s .pre .3) (s .pre .2) (z .0) (z .1) (z .2) (c .before .before .if1 .taken) (c .put-feed .ensures)
+    let t = c .before .before in
+    let f = t .before .before .before in
+    let s = start (f .before) in
+    let z = sizes (f .before) in
+    let a = s .args in
+    fed-refused (a .p) (a .at) (a .history .now) (a .block .now) (a .scratch .now) (a .out .now) (f .feed .result) _ _ _ (a .text .now) (c .put-feed .last .0) (c .put-feed .result)
+    (f .feed .ensures) (s .pre .0) (s .pre .1) (s .pre .3) (s .pre .2) (z .0) (z .1) (z .2) (t .if1 .taken) (c .put-feed .ensures)
 
 put-rows-requires : tie.Need-put-rows-requires
 put-rows-requires c κs = search needs
 
 add-t28 : tie.Need-add-t28
 add-t28 c =
-    let s = c .before .before .before .before .before .before .before .before .before .before .before .before .before .before .before in
-    let z = sizes (c .before .before .before .before .before .before .before .before) in
-    let a = c .before .before .before .before .before .before .before .feed in
-    search (needs, count-few (s .args .p) 0 (s .args .history .now) (s .args .block .now) (s .args .scratch .now) (s .args .out .now) (a .result) _ _ _ [] [] 0 (a .ensures) (s .pre .0) (s .pre .1) (s .pre .3) (s .pre .2) (z .0) (z .1) (z .2) (c .before .before .before .before .if1 .left))
+    let e = c .before .before .before .before in
+    let f = e .before .before .before in
+    let s = start (f .before) in
+    let z = sizes (f .before) in
+    let a = s .args in
+    search (needs, count-few (a .p) 0 (a .history .now) (a .block .now) (a .scratch .now) (a .out .now) (f .feed .result) _ _ _ [] [] 0 (f .feed .ensures) (s .pre .0) (s .pre .1) (s .pre .3) (s .pre .2) (z .0) (z .1) (z .2) (e .if1 .left))
 
 returns-2 : tie.Need-returns-2
 returns-2 c =
-    let s = c .before .before .before .before .before .before .before .before .before .before .before .before .before .before .before in
-    let z = sizes (c .before .before .before .before .before .before .before .before) in
-    let a = c .before .before .before .before .before .before .before .feed in
-    fed-accepted (s .args .p) (s .args .at) (s .args .history .now) (s .args .block .now) (s .args .scratch .now) (s .args .out .now) (a .result) _ _ _ (s .args .text .now) (c .before .put-rows .last .0) (c .before .put-rows .result)
-    (a .ensures) (s .pre .0) (s .pre .1) (s .pre .3) (s .pre .2) (z .0) (z .1) (z .2) (c .before .before .before .before .if1 .left) (c .before .put-rows .ensures)
+    let p = c .before .put-rows in
+    let e = c .before .before .before .before in
+    let f = e .before .before .before in
+    let s = start (f .before) in
+    let z = sizes (f .before) in
+    let a = s .args in
+    fed-accepted (a .p) (a .at) (a .history .now) (a .block .now) (a .scratch .now) (a .out .now) (f .feed .result) _ _ _ (a .text .now) (p .last .0) (p .result)
+    (f .feed .ensures) (s .pre .0) (s .pre .1) (s .pre .3) (s .pre .2) (z .0) (z .1) (z .2) (e .if1 .left) (p .ensures)
 
 pub feed-spec : {M : Type 1} → statement M
 feed-spec =

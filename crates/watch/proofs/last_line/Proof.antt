@@ -6,6 +6,16 @@ use borrow.Author.Needs.{needs}
 use Rattle.watch.proofs.last_line.Statement.{statement}
 use Rattle.watch.proofs.last_line.Tie as tie
 
+-- places on the way: the entry, seen from the test; the test's other arm, seen from the step; the step, seen from the write
+abbrev start : tie.Else1 → tie.Start
+start c = c .before .before .before .before
+
+abbrev begun : tie.After-step → tie.Else1
+begun c = c .before .before .before .before .before .before .before
+
+abbrev stepped : tie.After-write → tie.After-step
+stepped c = c .before .before .before .before .before .before
+
 returns : tie.Need-returns
 returns c = search needs
 
@@ -23,9 +33,10 @@ same-length c = search needs
 
 returns-2 : tie.Need-returns-2
 returns-2 c =
-    let s = c .before .before .before .before .before .before .before .step in
-    let a = c .before .before .before .before .before .before .before .before .before .before .before .before .before .before .before .before .before .before .args in
-    complete-step (a .p) (a .history .now) (a .block .now) _ _ _ (s .result) (c .before .before .before .before .before .before .before .before .before .before .before .before .before .before .if1 .left) (s .ensures)
+    let o = stepped (c .before) in
+    let e = begun o in
+    let a = start e .args in
+    complete-step (a .p) (a .history .now) (a .block .now) _ _ _ (o .step .result) (e .if1 .left) (o .step .ensures)
 
 ended-requires : tie.Need-ended-requires
 ended-requires c κs = search needs
@@ -35,9 +46,9 @@ same-length-2 c = search needs
 
 returns-3 : tie.Need-returns-3
 returns-3 c =
-    let s = c .before .before .before .before .before .before .before .before .step in
-    let a = c .before .before .before .before .before .before .before .before .before .before .before .before .before .before .before .before .before .before .before .args in
-    complete-ended (a .p) (a .history .now) (a .block .now) _ _ (c .ended .result) (c .ended .ensures .0) (ap (λ (l : Line). l .digits) (c .ended .ensures .1 ∙ s .ensures .newline refl refl))
+    let o = stepped (c .before .before) in
+    let a = start (begun o) .args in
+    complete-ended (a .p) (a .history .now) (a .block .now) _ _ (c .ended .result) (c .ended .ensures .0) (ap (λ (l : Line). l .digits) (c .ended .ensures .1 ∙ o .step .ensures .newline refl refl))
 
 pub last-line-spec : {M : Type 1} → statement M
 last-line-spec =

@@ -16,6 +16,23 @@ Inv-loop block₀ history₀ scratch₀ out₀ text₀ buf₀ p₀ turns₀ t12 
 abbrev μ-loop : tie.MeasureT-loop
 μ-loop block₀ history₀ scratch₀ out₀ text₀ buf₀ p₀ turns₀ t12 block history scratch out text buf p turns = turns
 
+-- places on the way: the entry, seen from the loop; a turn, seen from what was read; the bytes read, seen from their count; the count, seen from what
+-- was consumed
+abbrev start : tie.At-loop Inv-loop μ-loop → tie.Start Inv-loop μ-loop
+start c = c .before .before .before
+
+abbrev turn : tie.After-buf2 Inv-loop μ-loop → tie.In-loop Inv-loop μ-loop
+turn c = c .before .before .before
+
+abbrev got : tie.After-count Inv-loop μ-loop → tie.After-buf2 Inv-loop μ-loop
+got c = c .before .before .before .before
+
+abbrev counted : tie.After-consume Inv-loop μ-loop → tie.After-count Inv-loop μ-loop
+counted c = c .before .before .before .before .before .before .before
+
+abbrev consumed : tie.After-struct-known Inv-loop μ-loop → tie.After-consume Inv-loop μ-loop
+consumed c = c .before .before .before
+
 large-buffer-requires : tie.Need-large-buffer-requires Inv-loop μ-loop
 large-buffer-requires c κs = search needs
 
@@ -38,23 +55,26 @@ ended-requires : tie.Need-ended-requires Inv-loop μ-loop
 ended-requires c κs = search needs
 
 -- the block and the buffer keep their lengths
+same : (c : tie.At-loop Inv-loop μ-loop) → length (c .loop .block) ≡ length (start c .args .block .now)
+same c = c .loop .inv .1 ∙ sym (start c .pre .1)
+
 kept : (c : tie.After-consume Inv-loop μ-loop) → length (c .consume .last .1 .1 .0) ≡ 1024
-kept c = search (needs, c .before .before .before .before .before .before .before .before .before .before .before .before .before .before .before .loop .inv .1)
+kept c = search (needs, turn (got (counted c)) .before .loop .inv .1)
 
 kept-buffer : (c : tie.After-read Inv-loop μ-loop) → _≡_ {A = ℕ} 65536 (length (c .read .last .1 .0))
 kept-buffer c = search (needs, c .before .before .before .loop .inv .2)
 
 same-length : tie.Need-same-length Inv-loop μ-loop
-same-length c = c .before .before .before .before .before .before .before .before .loop .inv .1 ∙ sym (c .before .before .before .before .before .before .before .before .before .before .before .pre .1)
+same-length c = same (turn (c .before .before .before .before) .before)
 
 returns : tie.Need-returns Inv-loop μ-loop
 returns c e = absurd (false≢true (sym (c .ended .ensures .0) ∙ e))
 
 same-length-2 : tie.Need-same-length-2 Inv-loop μ-loop
-same-length-2 c = c .before .before .before .before .before .before .loop .inv .1 ∙ sym (c .before .before .before .before .before .before .before .before .before .pre .1)
+same-length-2 c = same (turn (c .before .before) .before)
 
 returns-2 : tie.Need-returns-2 Inv-loop μ-loop
-returns-2 c e = c .before .before .before .before .before .before .loop .inv .0
+returns-2 c e = turn (c .before .before) .before .loop .inv .0
 
 slice-aggregate-count : tie.Need-slice-aggregate-count Inv-loop μ-loop
 slice-aggregate-count c = search needs
@@ -72,22 +92,26 @@ consume-requires : tie.Need-consume-requires Inv-loop μ-loop
 consume-requires c κs = search needs
 
 same-length-3 : tie.Need-same-length-3 Inv-loop μ-loop
-same-length-3 c = kept (c .before .before .before .before) ∙ sym (c .before .before .before .before .before .before .before .before .before .before .before .before .before .before .before .before .before .before .before .before .before .before .pre .1)
+same-length-3 c =
+    let w = consumed (c .before) in
+    kept w ∙ sym (start (turn (got (counted w)) .before) .pre .1)
 
 returns-3 : tie.Need-returns-3 Inv-loop μ-loop
-returns-3 c = c .before .before .before .before .consume .ensures .ready
+returns-3 c = consumed (c .before) .consume .ensures .ready
 
 sub-turns : tie.Need-sub-turns Inv-loop μ-loop
-sub-turns c = search (needs, c .before .before .before .before .before .before .before .before .before .before .before .before .before .before .before .before .before .before .loop-test .taken)
+sub-turns c = search (needs, turn (got (counted (consumed (c .before)))) .loop-test .taken)
 
 loop-less : tie.Need-loop-less Inv-loop μ-loop
-loop-less c = (let t = c .before .before .before .before .before .before .before .before .before .before .before .before .before .before .before .before .before .before .loop-test .taken in omega (arith, t))
+loop-less c = omega (arith, turn (got (counted (consumed (c .before)))) .loop-test .taken)
 
 loop-again : tie.Need-loop-again Inv-loop μ-loop
-loop-again c = (c .before .before .before .before .consume .ensures .ready (not-false _ (c .if3 .left)), kept (c .before .before .before .before), kept-buffer (c .before .before .before .before .before .before .before .before .before .before .before .before .before .before .before .before))
+loop-again c =
+    let w = consumed (c .before) in
+    (w .consume .ensures .ready (not-false _ (c .if3 .left)), kept w, kept-buffer (got (counted w) .before))
 
 same-length-4 : tie.Need-same-length-4 Inv-loop μ-loop
-same-length-4 c = c .before .loop .inv .1 ∙ sym (c .before .before .before .before .pre .1)
+same-length-4 c = same (c .before)
 
 returns-4 : tie.Need-returns-4 Inv-loop μ-loop
 returns-4 c e = c .before .loop .inv .0

@@ -22,7 +22,10 @@ kept : (c : tie.After-run) → length (c .run .last .1 .0) ≡ 1024
 kept c = search needs
 
 finish-requires : tie.Need-finish-requires
-finish-requires c κs = (c .before .before .before .before .before .before .before .run .ensures (c .before .before .before .before .before .if1 .taken), kept (c .before .before .before .before .before .before .before))
+finish-requires c κs =
+    let t = c .before .before .before .before .before in
+    let r = t .before .before in
+    (r .run .ensures (t .if1 .taken), kept r)
 
 returns : tie.Need-returns
 returns c = search needs

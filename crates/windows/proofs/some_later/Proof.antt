@@ -19,7 +19,8 @@ returns c = let a = start (c .before) .args in stays (a .s .now) (someLater (a .
 
 widen-requires : tie.Need-widen-requires
 widen-requires c κs =
-    let b = c .before .before .before .before .before .before in
+    let m = c .before .before .before in
+    let b = m .before .before .before in
     let a = start (b .before .before) .args in
     let p = interval (b .before) in
     (cut-12 (a .lo) (a .hi) (p .0) (p .1) (b .split .ensures), cut-small (a .lo) (a .hi) (p .0) (p .1) (b .split .ensures))

@@ -11,6 +11,7 @@ two-down-spec =
     (tie.spec
     (search needs) (search needs) (search needs) (search needs) (search needs) (search needs) (search needs) (search needs) (search needs) (search needs) (search needs) (search needs)
     (λ c.
-    let u = c .before .before .before .before .before .before in
+    let v = c .before .before in
+    let u = v .before .before .before .before in
     let b = u .before .before .before in
-    pair-parts (moved (b .args .by)) (b .args .d) (b .args .e) (b .args .s .now) (b .pre) (u .move-down .ensures) (c .before .before .move-down2 .ensures)))
+    pair-parts (moved (b .args .by)) (b .args .d) (b .args .e) (b .args .s .now) (b .pre) (u .move-down .ensures) (v .move-down2 .ensures)))

@@ -11,6 +11,7 @@ two-flipped-spec =
     (tie.spec
     (search needs) (search needs) (search needs) (search needs) (search needs) (search needs) (search needs) (search needs) (search needs) (search needs) (search needs) (search needs)
     (λ c.
-    let u = c .before .before .before .before .before .before in
+    let v = c .before .before in
+    let u = v .before .before .before .before in
     let b = u .before .before .before in
-    pair-parts (flipped (b .args .n)) (b .args .d) (b .args .e) (b .args .s .now) (b .pre) (u .complement .ensures) (c .before .before .complement2 .ensures)))
+    pair-parts (flipped (b .args .n)) (b .args .d) (b .args .e) (b .args .s .now) (b .pre) (u .complement .ensures) (v .complement2 .ensures)))

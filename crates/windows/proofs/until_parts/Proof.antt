@@ -18,12 +18,13 @@ abbrev μ-loop : tie.MeasureT-loop
 
 loop-again : tie.Need-loop-again Inv-loop μ-loop
 loop-again c =
-    let q = c .before .before .before .before .before .before in
+    let w = c .before .before in
+    let q = w .before .before .before .before in
     let b = q .before .before .before in
     let a = b .before .before .args in
     let i = b .loop .inv in
     let h = b .before .before .pre .0 in
-    let u = c .before .before .until-within in
+    let u = w .until-within in
     let p = q .copy-into .ensures in
     let k : b .loop .i < length (a .t4) = omega (arith, i .3) in
     let v = widthOf (b .loop .i) (a .t4) in
@@ -42,7 +43,7 @@ until-parts-spec =
     (search needs)
     (λ c. let b = c .before in omega (arith, b .before .before .pre .1 .1 (b .loop .i) (c .loop-test .taken)))
     (search needs) (search needs) (search needs) (search needs) (search needs) (search needs)
-    (λ c κs. let b = c .before .before .before .before .before .before in (search needs, search needs, b .before .before .pre .1 .1 (b .loop .i) (c .before .before .before .before .before .loop-test .taken)))
+    (λ c κs. let t = c .before .before .before .before .before in let b = t .before in (search needs, search needs, b .before .before .pre .1 .1 (b .loop .i) (t .loop-test .taken)))
     (search needs) (search needs)
     loop-again
     (λ c. c .before .loop .inv .1)

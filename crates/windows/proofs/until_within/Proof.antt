@@ -31,7 +31,8 @@ until-within-spec =
     (λ c. (until-start (search needs) (search needs) (λ j. c .slice-known .given j .fits), search needs, refl))
     (search needs) (search needs) (search needs) (search needs) (search needs) (search needs) (search needs) (search needs) (search needs) (search needs)
     (λ c.
-    let r = c .before .before .before .before .before .before in
+    let w = c .before .before in
+    let r = w .before .before .before .before in
     let b = r .before .before .before in
     let a = b .before .before .args in
     let m : ℕ = third (a .d) (a .s .now) in
@@ -39,7 +40,7 @@ until-within-spec =
     let longer : length (r .reach .last .0) ≡ length (b .loop .s) = r .reach .kept .0 in
     let e : room (a .d) (b .loop .s) ≡ m = omega arith in
     let e′ : length (r .reach .last .0) - a .d ≡ m = omega arith in
-    let p = part-op (met _) (a .d) (length (r .reach .last .0) - a .d) m (r .reach .last .0) e′ (omega arith) (c .before .before .meet-moved .ensures) in
+    let p = part-op (met _) (a .d) (length (r .reach .last .0) - a .d) m (r .reach .last .0) e′ (omega arith) (w .meet-moved .ensures) in
     let two = until-twice (omega arith) (omega arith) (b .loop .j) (omega arith) (b .loop .inv .0) (rw e at (r .reach .ensures)) p in
     (two, search needs, two-length two (omega arith) (omega arith)))
     (λ c. c .before .loop .inv .2)

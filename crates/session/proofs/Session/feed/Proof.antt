@@ -9,8 +9,15 @@ use Rattle.session.proofs.Answers.{unfit-is, fit-is, feed-fits, fed-ref
 use Rattle.session.proofs.Session.feed.Statement.{statement}
 use Rattle.session.proofs.Session.feed.Tie as tie
 
+-- places on the way: the entry, seen from the number; the test's other arm, seen from the advance; the advance, seen from the end
 abbrev start : tie.After-feed-number → tie.Start
 start c = c .before .before .before .before .before .before .before
+
+abbrev accepted : tie.After-advance → tie.Else1
+accepted c = c .before .before .before .before .before
+
+abbrev advanced : tie.After-slice-known6 → tie.After-advance
+advanced c = c .before .before .before .before .before .before
 
 number : (c : tie.After-feed-number) → c .feed-number .result
     ≡ feedNumber (start c .args .self) (length (start c .args .block .now)) (length (start c .args .history .now)) (length (start c .args .scratch .now)) (length (start c .args .out .now))
@@ -35,8 +42,8 @@ ready c κs =
 
 returns-2 : tie.Need-returns-2
 returns-2 c =
-    let f = c .before .before .before .before .before .before in
-    let e = f .before .before .before .before .before in
+    let f = advanced c in
+    let e = accepted f in
     let a = start (e .before) .args in
     fed-accepted (a .self) (a .block .now) (a .history .now) (a .scratch .now) (a .out .now) (number (e .before)) (e .if1 .left) (f .advance .ensures)
 
