@@ -11,18 +11,18 @@ use Rattle.operators.proofs.Reaching.{first-load, second-load, until-la
 use Rattle.operators.proofs.put_until.Statement.{statement}
 use Rattle.operators.proofs.put_until.Tie as tie
 
--- places on the way: the entry, seen from the test; the loads of the left and of the right operand; the test's other arm, seen from behind them
+-- places on the way: the entry, seen from the test; the loads of the right and of the left operand; the test's other arm, seen from behind them
 abbrev start : tie.After-bad-interval → tie.Start
 start c = c .before .before .before
 
-abbrev left-loaded : tie.After-load2 → tie.After-load
-left-loaded c = c .before .before .before .before
+abbrev right-loaded : tie.After-load2 → tie.After-load
+right-loaded c = c .before .before .before .before
 
-abbrev right-loaded : tie.After-slice-known3 → tie.After-load2
-right-loaded c = c .before .before
+abbrev left-loaded : tie.After-slice-known3 → tie.After-load2
+left-loaded c = c .before .before
 
 abbrev fitting : tie.After-slice-known3 → tie.Else1
-fitting c = left-loaded (right-loaded c) .before .before
+fitting c = right-loaded (left-loaded c) .before .before
 
 test : (c : tie.After-bad-interval) → let a = start c .args in
     (c .before .four-fit .result && not (c .bad-interval .result)) ≡ (fourFit (a .a) (a .c) (a .b) (a .l) (a .w) (a .m) (length (a .s .now)) && not (badInterval (a .lo) (a .hi)))
@@ -61,8 +61,8 @@ sub-until-later-3 c = let h = four (fitting (c .before)) in let i = h .result in
 returns-2 : tie.Need-returns-2
 returns-2 c =
     let u = c .before .before in
-    let q = right-loaded (u .before .before) in
-    let p = left-loaded q in
+    let q = left-loaded (u .before .before) in
+    let p = right-loaded q in
     let o = p .before .before in
     let a = start (o .before) .args in
     turns (a .s .now) (untilLaid (a .a) (a .c) (a .b) (a .l) (a .w) (a .m) (a .lo) (a .hi) (a .s .now)) (fits o)
