@@ -1,6 +1,6 @@
 // Decimal lines: a part of the input is read into a block of states.
 ghost use mathlib.Core.Path.{_≡_};
-ghost use Prim.Native.Nat.{_+_, _-_, _≤_};
+ghost use Prim.Native.Nat.{_+_, _-_};
 ghost use lib.ListN.{length, drop};
 ghost use lib.Seq.{sets};
 use limits::MAX_STATE;

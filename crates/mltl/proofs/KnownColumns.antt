@@ -11,7 +11,7 @@ use Rattle.lists.specs.Bits.{bit, below}
 use Rattle.lists.specs.Choice.{pick}
 use Rattle.lists.proofs.Tests.{lt-or-le, same-test, or-iff, _also_, true-left, true-right}
 use Rattle.mltl.specs.Mltl.{Formula, signal, const, neg, and, or, F, G, U, R, eventually, until}
-use Rattle.mltl.specs.Known.{Value, no, undecided, yes, isYes, isNo, turned, smaller, larger, eventuallyKnown, alwaysKnown, untilKnown, releaseKnown, ifSeen, known, whole}
+use Rattle.mltl.specs.Known.{Value, undecided, isYes, isNo, turned, smaller, larger, eventuallyKnown, alwaysKnown, untilKnown, releaseKnown, ifSeen, known, whole}
 use Rattle.mltl.proofs.Readings.{everyTick-iff, eventually-iff, Until, until-iff}
 use Rattle.mltl.proofs.Known.{decided-is, turned-is, smaller-is, larger-is, Reads, yes-test, no-test, tested, Somewhere, Everywhere, F-reads, G-reads, U-reads, R-reads, seen, not-seen, unseen}
 

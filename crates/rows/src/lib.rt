@@ -4,7 +4,6 @@ ghost use Prim.Native.Nat.{_+_, _-_, _*_, _^_, _≤_, _<_};
 ghost use mathlib.Core.List.{[], _∷_};
 ghost use lib.Dec.{eqb};
 ghost use lib.ListN.{length};
-ghost use lib.Seq.{sets};
 ghost use Rattle.lists.specs.Choice.{pick};
 ghost use Rattle.lists.specs.Bits.{bitAt, digit};
 ghost use Rattle.lists.specs.Sequence.{ticks};

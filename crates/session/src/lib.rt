@@ -7,7 +7,7 @@ ghost use Rattle.limits.specs.Limits.{maxBlock};
 ghost use Rattle.lists.specs.Choice.{first};
 ghost use Rattle.table.specs.Nodes.{formulaAt};
 ghost use Rattle.verdict.specs.Verdict.{cleared};
-ghost use Rattle.session.specs.Session.{Effect, sessionWith, noSession, withSeen, verdictWords, opening, feedRows, fed, feeding, closeRows, closed, closing};
+ghost use Rattle.session.specs.Session.{sessionWith, noSession, withSeen, verdictWords, opening, feedRows, fed, feeding, closeRows, closed, closing};
 ghost use Rattle.session.specs.Code.Steps.{Writable, Feedable, Closable};
 use limits::CLOSE_WORDS;
 use limits::FEED_WORDS;
