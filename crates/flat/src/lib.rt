@@ -58,12 +58,34 @@ fn rule_from(b: &[u8], i: usize) -> Rule
     }
 }
 
+fn no_node() -> Node
+    ensures { λ r. ⌜ r ≡ record { kind = 0; arg = 0; lo = 0; hi = 0; left = 0; right = 0 } ⌝ }
+{
+    Node {
+        kind: 0,
+        arg: 0,
+        lo: 0,
+        hi: 0,
+        left: 0,
+        right: 0,
+    }
+}
+
+fn no_rule() -> Rule
+    ensures { λ r. ⌜ r ≡ record { name = 0; watched = 0 } ⌝ }
+{
+    Rule {
+        name: 0,
+        watched: 0,
+    }
+}
+
 fn nodes_from(b: &[u8]) -> [Node; MAX_NODES]
     requires { ⌜ tableBytes ≤ length (now b) ⌝ }
     ensures { λ r. ⌜ r ≡ ticks (nodeFrom (now (b .entry))) maxNodes ⌝ }
 {
-    let first = node_from(b, 0);
-    let mut nodes = [first; MAX_NODES];
+    let none = no_node();
+    let mut nodes = [none; MAX_NODES];
     for i in 0..MAX_NODES {
         nodes[i] = node_from(b, i);
     }
@@ -74,8 +96,8 @@ fn rules_from(b: &[u8]) -> [Rule; MAX_RULES]
     requires { ⌜ tableBytes ≤ length (now b) ⌝ }
     ensures { λ r. ⌜ r ≡ ticks (ruleFrom (now (b .entry))) maxRules ⌝ }
 {
-    let first = rule_from(b, 0);
-    let mut rules = [first; MAX_RULES];
+    let none = no_rule();
+    let mut rules = [none; MAX_RULES];
     for i in 0..MAX_RULES {
         rules[i] = rule_from(b, i);
     }

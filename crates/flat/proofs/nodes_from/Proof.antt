@@ -18,7 +18,7 @@ abbrev μ-loop : tie.MeasureT-loop
 loop-again : tie.Need-loop-again Inv-loop μ-loop
 loop-again c =
     let l = c .before .before .loop in
-    (l .inv .0, filled-more (nodeFrom (c .before .before .before .before .before .args .b .now)) 64 (l .nodes) (l .i) (omega arith) (c .node-from2 .ensures) (l .inv .1))
+    (l .inv .0, filled-more (nodeFrom (c .before .before .before .before .before .args .b .now)) 64 (l .nodes) (l .i) (omega arith) (c .node-from .ensures) (l .inv .1))
 
 pub nodes-from-spec : {M : Type 1} → statement M
 nodes-from-spec =

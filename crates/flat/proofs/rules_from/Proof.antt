@@ -18,7 +18,7 @@ abbrev μ-loop : tie.MeasureT-loop
 loop-again : tie.Need-loop-again Inv-loop μ-loop
 loop-again c =
     let l = c .before .before .loop in
-    (l .inv .0, filled-more (ruleFrom (c .before .before .before .before .before .args .b .now)) 8 (l .rules) (l .i) (omega arith) (c .rule-from2 .ensures) (l .inv .1))
+    (l .inv .0, filled-more (ruleFrom (c .before .before .before .before .before .args .b .now)) 8 (l .rules) (l .i) (omega arith) (c .rule-from .ensures) (l .inv .1))
 
 pub rules-from-spec : {M : Type 1} → statement M
 rules-from-spec =
