@@ -2,11 +2,12 @@
 use mathlib.Core.Path.{_≡_, sym, ap, ap₂, _∙_, subst}
 use mathlib.Core.Bool.{Bool}
 use mathlib.Core.List.{List, _++_, append-assoc}
-use Prim.Native.Nat.{ℕ, _+_, _≤_}
+use Prim.Native.Nat.{ℕ, _+_, _-_, _≤_}
+use native.Mathlib.Nat.{zero-add}
 use native.Mathlib.Omega.{arith}
 use lib.ListN.{length, getD, take, drop, take-append-drop, length-take, length-drop}
-use lib.Seq.{take-all, take-take, take-add, drop-drop, drop-append-le}
-use borrow.Rule.Slice.PartMut.{putMid, midOf}
+use lib.Seq.{take-all, take-take, take-at, take-add, drop-at, drop-drop, drop-append-le, length-take-le}
+use borrow.Rule.Slice.PartMut.{putMid, midOf, take-put, same-len-mid}
 use Rattle.column.specs.Column.{register, Laid, Turned}
 use Rattle.lists.specs.Bits.{pack}
 use Rattle.lists.proofs.Columns.{length-pack}
@@ -18,6 +19,37 @@ register-part a k d m xs h l =
     register-same d m (midOf a k xs) (a + d) xs (omega (arith, length-register a k xs h)) (omega arith) λ w j.
     register-in a k xs (d + w) (omega arith) ∙ ap (λ (i : ℕ). getD xs i 0) (omega arith)
 
+-- a register below what is known
+pub register-below : (b at m : ℕ) (xs ys : List ℕ) → take b ys ≡ take b xs → at + m ≤ b → b ≤ length xs → b ≤ length ys → register at m ys ≡ register at m xs
+register-below b at m xs ys e h l k = sym (whole ys k) ∙ ap (register at m) e ∙ whole xs l
+  where
+    whole : (zs : List ℕ) → b ≤ length zs → register at m (take b zs) ≡ register at m zs
+    whole zs j = register-part 0 b at m zs (omega arith) h ∙ ap (λ (i : ℕ). register i m zs) (zero-add at)
+
+-- ---- a list put in the place of a part
+module _ (a k : ℕ) (xs ys : List ℕ) (h : a + k ≤ length xs) (n : length ys ≡ k) where
+  put-tail : drop a (putMid a k xs ys) ≡ ys ++ drop k (drop a xs)
+  put-tail = drop-at (take a xs) (ys ++ drop k (drop a xs)) a (length-take-le a xs (omega arith))
+
+  pub put-here : register a k (putMid a k xs ys) ≡ ys
+  put-here = ap (take k) put-tail ∙ take-at ys (drop k (drop a xs)) k n
+
+  pub put-long : length (putMid a k xs ys) ≡ length xs
+  put-long = same-len-mid a k xs ys (n ∙ sym (length-register a k xs h))
+
+  pub put-after : (e : ℕ) → a + k ≤ e → drop e (putMid a k xs ys) ≡ drop e xs
+  put-after e l =
+      let s : a + (k + (e - (a + k))) ≡ e = omega arith in
+      let split : (zs : List ℕ) → drop (e - (a + k)) (drop k (drop a zs)) ≡ drop e zs =
+      λ zs. drop-drop (e - (a + k)) k (drop a zs) ∙ drop-drop (k + (e - (a + k))) a zs ∙ ap (λ (i : ℕ). drop i zs) s
+      in
+      sym (split (putMid a k xs ys)) ∙ ap (drop (e - (a + k))) (ap (drop k) put-tail ∙ drop-at ys (drop k (drop a xs)) k n) ∙ split xs
+
+  pub put-before : (at m : ℕ) → at + m ≤ a → register at m (putMid a k xs ys) ≡ register at m xs
+  put-before at m l =
+      register-below a at m xs (putMid a k xs ys) (take-put a k xs ys (omega arith)) l (omega arith) (omega (arith, put-long))
+
+-- ---- columns laid or turned in a part
 drop-take : (i k : ℕ) (l : List ℕ) → i ≤ k → k ≤ length l → drop i (take k l) ++ drop k l ≡ drop i l
 drop-take i k l h j = sym (drop-append-le i (take k l) (drop k l) (omega (arith, length-take k l))) ∙ ap (drop i) (take-append-drop k l)
 

@@ -120,13 +120,9 @@ pub swept-next : {w x : ℕ} {f : ℕ → Bool} {xs ys : List ℕ} → Swept 0 f
 swept-next {w = w} {x = x} {ys = ys} r h q = swept-more r (omega arith) (ap (λ (i : ℕ). set ys i x) (sym (zero-add w))) q
 
 -- what is read of the first register ahead of a sweep
-module _ {at w : ℕ} {f : ℕ → Bool} {xs ys : List ℕ} (r : Swept at f w xs ys) (m : ℕ) (apart : (0 + m ≤ at) ⊎ (at ≤ 0)) where
-  pub own-first : w < m → getD ys w 0 < 2 ^ 64 → WordOf (bitAt (register 0 m xs)) w (getD ys w 0)
-  own-first h a = own-ahead r 0 m apart h a (ap (λ (i : ℕ). getD ys i 0) (sym (zero-add w)))
-
 pub own-next : {w : ℕ} {f : ℕ → Bool} {xs ys : List ℕ} → Swept 0 f w xs ys → (m : ℕ) → w < m → getD ys w 0 < 2 ^ 64
     → WordOf (bitAt (register 0 m xs)) w (getD ys w 0)
-own-next r m = own-first r m (inr (omega arith))
+own-next {w} {ys = ys} r m h a = own-ahead r 0 m (inr (omega arith)) h a (ap (λ (i : ℕ). getD ys i 0) (sym (zero-add w)))
 
 -- a word of the list itself, and a column past its end
 module _ (m : ℕ) (xs : List ℕ) where

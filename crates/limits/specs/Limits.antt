@@ -1,4 +1,4 @@
--- Document 01's limits and sizes.
+-- The limits and sizes of documents 01 and 02.
 use Prim.Native.Nat.{ℕ, _+_, _*_}
 
 -- ---- tables
@@ -58,6 +58,10 @@ registerWords = 80
 -- a register for each node, and two more for U and R
 abbrev pub scratchWords : ℕ
 scratchWords = (maxNodes + 2) * registerWords
+
+-- the same twice, for answers while a trace still grows
+abbrev pub earlyScratchWords : ℕ
+earlyScratchWords = 2 * scratchWords
 
 abbrev pub feedWords : ℕ
 feedWords = 16

@@ -1,4 +1,4 @@
-// Document 01's limits and sizes. specs/Limits has the same as definitions; include/juntreak.h with JUNTREAK_ before each.
+// The limits and sizes of documents 01 and 02. specs/Limits has the same as definitions; include/juntreak.h with JUNTREAK_ before each.
 
 // ---- tables
 
@@ -44,6 +44,9 @@ pub const REGISTER_WORDS: usize = 80;
 
 // A register for each node, and two more for U and R.
 pub const SCRATCH_WORDS: usize = (MAX_NODES + 2) * REGISTER_WORDS;
+
+// The same twice, for answers while a trace still grows.
+pub const EARLY_SCRATCH_WORDS: usize = 2 * SCRATCH_WORDS;
 
 pub const FEED_WORDS: usize = 16;
 

@@ -1,32 +1,42 @@
 -- What is known of a formula as two columns of bits, yes and no, by those of its operands: F-columns, .. for each operator. Assumes nothing.
-use Prim.Native.Nat.{ℕ, zero, suc, _+_, _-_, _≤_, _<_}
+use Prim.Native.Nat.{ℕ, _+_, _≤_, _<_}
 use native.Mathlib.Omega.{arith}
-use mathlib.Core.Path.{_≡_, refl, sym, ap, ap₂, _∙_, subst}
-use mathlib.Core.Logic.{_⊎_, inl, inr, ⊎-elim, _↔_, Iff·rfl}
+use mathlib.Core.Path.{_≡_, refl, sym, ap, ap₂, _∙_}
+use mathlib.Core.Logic.{_⊎_, ⊎-elim, _↔_, Iff·rfl}
 use mathlib.Core.Bool.{Bool, true, false, not, _&&_, _||_, false≢true}
 use mathlib.Core.List.{List}
 use lib.Dec.{ltb}
 use lib.ListN.{length, getD}
 use Rattle.lists.specs.Bits.{bit, below}
 use Rattle.lists.specs.Choice.{pick}
-use Rattle.lists.proofs.Tests.{lt-or-le, same-test, or-iff, _also_, true-left, true-right}
-use Rattle.mltl.specs.Mltl.{Formula, signal, const, neg, and, or, F, G, U, R, eventually, until}
-use Rattle.mltl.specs.Known.{Value, undecided, isYes, isNo, turned, smaller, larger, eventuallyKnown, alwaysKnown, untilKnown, releaseKnown, ifSeen, known, whole}
-use Rattle.mltl.proofs.Readings.{everyTick-iff, eventually-iff, Until, until-iff}
-use Rattle.mltl.proofs.Known.{decided-is, turned-is, smaller-is, larger-is, Reads, yes-test, no-test, tested, Somewhere, Everywhere, F-reads, G-reads, U-reads, R-reads, seen, not-seen, unseen}
+use Rattle.lists.proofs.Tests.{lt-or-le, same-test, or-iff}
+use Rattle.mltl.specs.Mltl.{Formula, signal, const, neg, and, or, F, G, U, R, someTick, eventually, until}
+use Rattle.mltl.specs.Known.{Value, undecided, isYes, isNo, turned, smaller, larger, eventuallyKnown, alwaysKnown, untilKnown, releaseKnown, ifSeen, known, whole, wholeRelease}
+use Rattle.mltl.proofs.Readings.{someTick-iff, everyTick-iff, eventually-iff, until-iff}
+use Rattle.mltl.proofs.Known.{decided-is, turned-is, smaller-is, larger-is, Reads, yes-test, no-test, tested, Somewhere, Everywhere, F-reads, G-reads, U-reads, R-reads, seen, not-seen}
 
--- ---- bits p and q at every tick, q false from n on: the readings above as tests
+-- ---- when the operators hold on columns of bits, by ∃ and ∀
 pub whole-iff : (lo hi : ℕ) (q : ℕ → Bool) (t : ℕ) → (whole lo hi q t ≡ true) ↔ Everywhere (t + lo) (t + hi + 1) (λ i. q i ≡ true)
 unfolding whole
 whole-iff lo hi q t = everyTick-iff (t + lo) (t + hi + 1) q
 
+-- at every tick q, or p before it
+pub wholeRelease-iff : (lo hi : ℕ) (p q : ℕ → Bool) (t : ℕ)
+    → (wholeRelease lo hi p q t ≡ true) ↔ Everywhere (t + lo) (t + hi + 1) (λ i. (q i ≡ true) ⊎ Somewhere (t + lo) i (λ j. p j ≡ true))
+unfolding wholeRelease
+wholeRelease-iff lo hi p q t =
+    let c = everyTick-iff (t + lo) (t + hi + 1) (λ i. q i || someTick (t + lo) i p) in
+    (λ h i x y. at i .0 (c .0 h i x y), λ k. c .1 λ i x y. at i .1 (k i x y))
+  where
+    at : (i : ℕ) → ((q i || someTick (t + lo) i p) ≡ true) ↔ ((q i ≡ true) ⊎ Somewhere (t + lo) i (λ j. p j ≡ true))
+    at i =
+        let s = someTick-iff (t + lo) i p in
+        or-iff _ _ Iff·rfl (λ h. let r = s .0 h in (r .at, r .late, r .early, r .is), λ r. s .1 (record { at = r .0; late = r .1; early = r .2; is = r .3 }))
+
+-- q is clear from n on: no interval has to be cut there
 module _ {n : ℕ} (lo hi : ℕ) (p : ℕ → Bool) {q : ℕ → Bool} (ends : (i : ℕ) → n ≤ i → q i ≡ false) (t : ℕ) where
   inside : (i : ℕ) → q i ≡ true → i < n
   inside i e = ⊎-elim (λ h. h) (λ h. absurd (false≢true (sym (ends i h) ∙ e))) (lt-or-le i n)
-
-  -- an interval that is not empty is seen to its end
-  pub whole-seen : lo ≤ hi → whole lo hi q t ≡ true → t + hi < n
-  whole-seen l h = inside (t + hi) (whole-iff lo hi q t .0 h (t + hi) (omega arith) (omega arith))
 
   pub eventually-uncut : (eventually n lo hi q t ≡ true) ↔ Somewhere (t + lo) (t + hi + 1) (λ i. q i ≡ true)
   eventually-uncut =
@@ -39,44 +49,6 @@ module _ {n : ℕ} (lo hi : ℕ) (p : ℕ → Bool) {q : ℕ → Bool} (ends : (
         λ h. let r = c .0 h in (r .at, r .late, omega arith, (r .right, r .left)),
         λ r. c .1 (record { at = r .0; late = r .1; early = omega arith; inside = inside (r .0) (r .3 .0); right = r .3 .0; left = r .3 .1 }),
       )
-
-  -- at every tick q, or p before it. So: q at every tick, or up to a tick at which p too
-  abbrev pub Covered : Type 0
-  Covered = Everywhere (t + lo) (t + hi + 1) (λ i. (q i ≡ true) ⊎ Somewhere (t + lo) i (λ j. p j ≡ true))
-
-  abbrev Ended : Type 0
-  Ended = Until n lo hi q (λ i. p i && q i) t
-
-  walk : Covered → (c : ℕ) → t + lo + c ≤ t + hi + 1 → Ended ⊎ Everywhere (t + lo) (t + lo + c) (λ i. q i ≡ true)
-  walk k zero l = inr λ i x y. absurd (omega arith)
-  walk k (suc c) l = ⊎-elim inl (λ g. ⊎-elim
-      (λ e. inr λ i x y. ⊎-elim (λ z. g i x z) (λ z. subst (λ (j : ℕ). q j ≡ true) (omega arith) e) (lt-or-le i (t + lo + c)))
-      (λ s. inl (record {
-        at = s .0;
-        late = s .1;
-        early = omega arith;
-        inside = inside (s .0) (g (s .0) (s .1) (s .2));
-        right = s .3 also g (s .0) (s .1) (s .2);
-        left = λ j x y. g j x (omega arith);
-      }))
-      (k (t + lo + c) (omega arith) (omega arith))) (walk k c (omega arith))
-
-  ended : Ended → Covered
-  ended r i x y = ⊎-elim
-      (λ z. inr (r .at, r .late, z, true-left _ (q (r .at)) (r .right)))
-      (λ z. inl (⊎-elim (r .left i x) (λ v. subst (λ (j : ℕ). q j ≡ true) (omega arith) (true-right (p (r .at)) _ (r .right))) (lt-or-le i (r .at))))
-      (lt-or-le (r .at) i)
-
-  pub until-none : ((until n lo hi q (λ i. p i && q i) t || whole lo hi q t) ≡ true) ↔ Covered
-  until-none =
-      let c = or-iff _ _ (until-iff n lo hi q (λ i. p i && q i) t) (whole-iff lo hi q t) in
-      (λ h. ⊎-elim ended (λ k i x y. inl (k i x y)) (c .0 h), λ k. c .1 (split k))
-    where
-      split : Covered → Ended ⊎ Everywhere (t + lo) (t + hi + 1) (λ i. q i ≡ true)
-      split k = ⊎-elim
-          (λ h. inr λ i x y. absurd (omega arith))
-          (λ h. ⊎-elim inl (λ g. inr λ i x y. g i x (omega arith)) (walk k (t + hi + 1 - (t + lo)) (omega arith)))
-          (lt-or-le (t + hi + 1) (t + lo))
 
 same : (p q : Bool) {S : Type 0} → (p ≡ true) ↔ S → (q ≡ true) ↔ S → p ≡ q
 same p q r s = same-test p q r s (λ x. x) (λ x. x)
@@ -117,28 +89,16 @@ module _ {n : ℕ} (lo hi : ℕ) {a : ℕ → Value} {ya na : ℕ → Bool} (A :
     pub U-yes : (t : ℕ) → isYes (untilKnown lo hi a b t) ≡ until n lo hi ya yb t
     U-yes t = same _ _ (yes-test (U-reads lo hi (bits A) (bits B) t)) (until-uncut lo hi ya (yes-ends B) t)
 
-    pub U-no : (t : ℕ) → isNo (untilKnown lo hi a b t) ≡ (until n lo hi nb (λ i. na i && nb i) t || whole lo hi nb t)
-    U-no t = same _ _ (no-test (U-reads lo hi (bits A) (bits B) t)) (until-none lo hi na (no-ends B) t)
+    pub U-no : (t : ℕ) → isNo (untilKnown lo hi a b t) ≡ wholeRelease lo hi na nb t
+    U-no t = same _ _ (no-test (U-reads lo hi (bits A) (bits B) t)) (wholeRelease-iff lo hi na nb t)
 
-    pub R-yes : (t : ℕ) → isYes (releaseKnown lo hi a b t) ≡ (until n lo hi yb (λ i. ya i && yb i) t || whole lo hi yb t)
-    R-yes t = same _ _ (yes-test (R-reads lo hi (bits A) (bits B) t)) (until-none lo hi ya (yes-ends B) t)
+    pub R-yes : (t : ℕ) → isYes (releaseKnown lo hi a b t) ≡ wholeRelease lo hi ya yb t
+    R-yes t = same _ _ (yes-test (R-reads lo hi (bits A) (bits B) t)) (wholeRelease-iff lo hi ya yb t)
 
     pub R-no : (t : ℕ) → isNo (releaseKnown lo hi a b t) ≡ until n lo hi na nb t
     R-no t = same _ _ (no-test (R-reads lo hi (bits A) (bits B) t)) (until-uncut lo hi na (no-ends B) t)
 
 -- ---- the columns of a formula
-pub known-columns : (f : Formula) (xs : List ℕ) → TwoColumns (length xs) (known f xs) (λ t. isYes (known f xs t)) (λ t. isNo (known f xs t))
-known-columns f xs = record { yeses = λ t. refl; noes = λ t. refl; ends = unseen f xs }
-
--- columns that are right below n, and false from n on
-pub columns-by : {n : ℕ} {a : ℕ → Value} {p q : ℕ → Bool} → ((t : ℕ) → n ≤ t → a t ≡ undecided)
-    → ((t : ℕ) → t < n → (p t ≡ isYes (a t)) × (q t ≡ isNo (a t))) → ((t : ℕ) → n ≤ t → (p t ≡ false) × (q t ≡ false)) → TwoColumns n a p q
-columns-by {n} ends right clear = record {
-  yeses = λ t. ⊎-elim (λ h. right t h .0) (λ h. clear t h .0 ∙ ap isYes (sym (ends t h))) (lt-or-le t n);
-  noes = λ t. ⊎-elim (λ h. right t h .1) (λ h. clear t h .1 ∙ ap isNo (sym (ends t h))) (lt-or-le t n);
-  ends = ends;
-}
-
 seen-columns : (n : ℕ) (a : ℕ → Value) (p q : ℕ → Bool) → ((t : ℕ) → isYes (a t) ≡ p t) → ((t : ℕ) → isNo (a t) ≡ q t)
     → TwoColumns n (λ t. ifSeen n t (a t)) (below n p) (below n q)
 seen-columns n a p q y z = record {
@@ -210,11 +170,11 @@ module _ (xs : List ℕ) where
           (λ t h. ap₂ larger (A .ends t h) (B .ends t h))
 
       pub U-columns : (lo hi : ℕ)
-          → FormulaColumns (U lo hi a b) (below n (until n lo hi ya yb)) (below n (λ t. until n lo hi nb (λ i. na i && nb i) t || whole lo hi nb t))
+          → FormulaColumns (U lo hi a b) (below n (until n lo hi ya yb)) (below n (wholeRelease lo hi na nb))
       unfolding known
       U-columns lo hi = seen-columns n _ _ _ (U-yes lo hi A B) (U-no lo hi A B)
 
       pub R-columns : (lo hi : ℕ)
-          → FormulaColumns (R lo hi a b) (below n (λ t. until n lo hi yb (λ i. ya i && yb i) t || whole lo hi yb t)) (below n (until n lo hi na nb))
+          → FormulaColumns (R lo hi a b) (below n (wholeRelease lo hi ya yb)) (below n (until n lo hi na nb))
       unfolding known
       R-columns lo hi = seen-columns n _ _ _ (R-yes lo hi A B) (R-no lo hi A B)

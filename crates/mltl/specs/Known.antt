@@ -1,13 +1,13 @@
 -- What is known of a formula while its trace still grows: yes, no, or undecided, which document 02 calls open.
 -- The states seen are xs, for the ticks below length xs; the ticks from there on are not yet seen.
 use Prim.Native.Nat.{ℕ, zero, suc, _+_, _-_}
-use mathlib.Core.Bool.{Bool, true, false}
+use mathlib.Core.Bool.{Bool, true, false, _||_}
 use mathlib.Core.List.{List}
 use lib.Dec.{ltb}
 use lib.ListN.{length, getD}
 use Rattle.lists.specs.Bits.{bit}
 use Rattle.lists.specs.Choice.{pick}
-use Rattle.mltl.specs.Mltl.{Formula, signal, const, neg, and, or, F, G, U, R, everyTick}
+use Rattle.mltl.specs.Mltl.{Formula, signal, const, neg, and, or, F, G, U, R, someTick, everyTick}
 
 -- in this order: undecided is in the middle
 pub data Value : Type 0 where
@@ -97,3 +97,7 @@ known (R lo hi a b) xs t = ifSeen (length xs) t (releaseKnown lo hi (known a xs)
 -- ---- on columns of bits: a at every tick i with t + lo ≤ i ≤ t + hi, those not yet seen included
 unfoldable pub whole : ℕ → ℕ → (ℕ → Bool) → ℕ → Bool
 whole lo hi a t = everyTick (t + lo) (t + hi + 1) a
+
+-- at every such tick i b, or a at some tick j with t + lo ≤ j < i
+unfoldable pub wholeRelease : ℕ → ℕ → (ℕ → Bool) → (ℕ → Bool) → ℕ → Bool
+wholeRelease lo hi a b t = everyTick (t + lo) (t + hi + 1) (λ i. b i || someTick (t + lo) i a)

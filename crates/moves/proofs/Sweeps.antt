@@ -1,5 +1,5 @@
 -- Sweeps over a register with its column moved down. Assumes nothing.
-use mathlib.Core.Path.{_≡_, refl, sym, ap, _∙_, subst}
+use mathlib.Core.Path.{_≡_, sym, ap, _∙_, subst}
 use mathlib.Core.Logic.{inr, ⊎-elim}
 use mathlib.Core.Bool.{Bool, false, _||_, _&&_, and-false}
 use mathlib.Core.List.{List}
@@ -17,10 +17,11 @@ use Rattle.lists.proofs.Columns.{length-pack, getD-pack, word-is, bitAt-past}
 use Rattle.column.specs.Column.{WordOf, Swept, Laid, Turned, register}
 use Rattle.column.proofs.Words.{own-word, word-by, or-words, and-words}
 use Rattle.column.proofs.Registers.{paste-low, paste-in, register-in}
-use Rattle.column.proofs.Sweeps.{swept-to, swept-right, swept-next, swept-laid, swept-whole, own-next, own-ahead, ahead, word-first, register-past, register-whole, pack-none}
+use Rattle.column.proofs.Sweeps.{swept-to, swept-right, swept-next, swept-whole, own-next, ahead, word-first, register-past, register-whole, pack-none}
 use Rattle.column.proofs.Parts.{part-turned, laid-length}
-use Rattle.pair.specs.Pair.{room}
-use Rattle.moves.specs.Moves.{moved, joined, met, reached, IntoFirst}
+use Rattle.pair.specs.Pair.{IntoFirst}
+use Rattle.pair.proofs.Pairs.{Into, into-next, into-laid}
+use Rattle.moves.specs.Moves.{moved, joined, met, reached, sustained}
 use Rattle.moves.proofs.Words.{or-none, moved-last}
 
 -- a turn less
@@ -45,12 +46,13 @@ module _ (by m : ℕ) {w y : ℕ} {xs ys : List ℕ} (h : w < m) (l : m ≤ leng
   pub met-next : Swept 0 (met by (register 0 m xs)) w xs ys → Swept 0 (met by (register 0 m xs)) (w + 1) xs (set ys w (bitAnd (getD ys w 0) y))
   met-next r = swept-next r (omega arith) (and-words (own-next r m h a) (moved-next r m by q))
 
-pub reached-next : (by d m : ℕ) {w y : ℕ} {xs ys : List ℕ} → w < m → m ≤ length xs → ((i : ℕ) → getD ys i 0 < 2 ^ 64) → WordOf (moved by (register 0 m ys)) w y
-    → Swept 0 (reached by (register 0 m xs) (register d m xs)) w xs ys
-    → Swept 0 (reached by (register 0 m xs) (register d m xs)) (w + 1) xs (set ys w (bitOr (getD ys w 0) (bitAnd (getD ys (d + w) 0) y)))
-reached-next by d m {w} h l fits q r =
-    swept-next r (omega arith)
-    (or-words (own-next r m h (fits w)) (and-words (own-ahead r d m (inr (omega arith)) h (fits (d + w)) refl) (moved-next r m by q)))
+-- and of the first of two registers, joined or met with it as the second tells
+module _ (by d m : ℕ) {w y : ℕ} {xs ys : List ℕ} (h : w < m) (fits : (i : ℕ) → getD ys i 0 < 2 ^ 64) (q : WordOf (moved by (register 0 m ys)) w y) where
+  pub reached-next : Into (reached by) d 0 d m w xs ys → Into (reached by) d 0 d m (w + 1) xs (set ys w (bitOr (getD ys w 0) (bitAnd (getD ys (d + w) 0) y)))
+  reached-next r = into-next r h (omega arith) (omega arith) fits (λ a b. or-words a (and-words b (moved-next (r .swept) m by q)))
+
+  pub sustained-next : Into (sustained by) d 0 d m w xs ys → Into (sustained by) d 0 d m (w + 1) xs (set ys w (bitAnd (getD ys w 0) (bitOr (getD ys (d + w) 0) y)))
+  sustained-next r = into-next r h (omega arith) (omega arith) fits (λ a b. and-words a (or-words b (moved-next (r .swept) m by q)))
 
 -- the words that are left, said of the whole list
 pub left-done : (op : List ℕ → ℕ → Bool) {m k left : ℕ} {xs ys : List ℕ} → m ≡ length xs → k ≡ left → Swept 0 (op (register 0 m xs)) k xs ys
@@ -76,14 +78,18 @@ pub joined-done : (by : ℕ) {m k : ℕ} {xs ys : List ℕ} → m ≡ length xs 
 joined-done by {m} {xs = xs} e fits g r =
     swept-whole (joined by) {w = m} e (stays (moved by (register 0 m xs)) fits (omega arith) (λ t h. register-past m xs (t + by) (omega arith)) r) (omega arith) (omega arith)
 
-pub reached-done : (by d : ℕ) {m k : ℕ} {xs ys : List ℕ} → m ≡ room d xs → ((w : ℕ) → getD xs w 0 < 2 ^ 64) → k ≡ m - by / 64
-    → Swept 0 (reached by (register 0 m xs) (register d m xs)) k xs ys → IntoFirst (reached by) d xs ys
-reached-done by d {m} {xs = xs} {ys = ys} e fits g r =
-    subst (λ (n : ℕ). Laid 0 n (reached by (register 0 n xs) (register d n xs)) xs ys) e
-    (swept-laid
+pub reached-done : (by d : ℕ) {m k : ℕ} {xs ys : List ℕ} → ((w : ℕ) → getD xs w 0 < 2 ^ 64) → k ≡ m - by / 64 → Into (reached by) d 0 d m k xs ys
+    → IntoFirst (reached by) d xs ys
+reached-done by d {m} {xs = xs} fits g r =
+    into-laid r
     (stays (λ t. bitAt (register d m xs) t && moved by (register 0 m xs) t) fits (omega arith)
-    (λ t j. ap (λ (b : Bool). bitAt (register d m xs) t && b) (register-past m xs (t + by) (omega arith)) ∙ and-false (bitAt (register d m xs) t)) r)
-    (λ p. omega arith))
+    (λ t j. ap (λ (b : Bool). bitAt (register d m xs) t && b) (register-past m xs (t + by) (omega arith)) ∙ and-false (bitAt (register d m xs) t)) (r .swept))
+
+-- met with it where the second is clear: a word more, met with that of the second
+pub sustained-rest : (by d m : ℕ) {w : ℕ} {xs ys : List ℕ} → w < m → m ≤ w + by / 64 → ((i : ℕ) → getD ys i 0 < 2 ^ 64) → Into (sustained by) d 0 d m w xs ys
+    → Into (sustained by) d 0 d m (w + 1) xs (set ys w (bitAnd (getD ys w 0) (getD ys (d + w) 0)))
+sustained-rest by d m {w} {xs} h p fits r =
+    into-next r h (omega arith) (omega arith) fits (λ a b. and-words a (or-none (moved by (register 0 m xs)) b (λ i l. register-past m xs (64 * w + i + by) (omega arith))))
 
 -- met with it: the words are cleared
 pub vanishes : {f : ℕ → Bool} {k : ℕ} {xs ys zs : List ℕ} → Swept 0 f k xs ys → k ≤ length xs → zs ≡ replicate (length (midOf k (length ys - k) ys)) 0

@@ -1,10 +1,11 @@
-// A register's column moved down, alone and with itself. `reach` takes two registers in one slice, as crate pair has them; the others take the whole slice
-// as one.
+// A register's column moved down, alone and with itself. `reach` and `sustain` take two registers in one slice, as crate pair has them; the others take the
+// whole slice as one.
 ghost use mathlib.Core.Path.{_≡_};
 ghost use Prim.Native.Nat.{_+_, _-_, _/_, _≤_, _<_};
 ghost use lib.ListN.{length};
 ghost use Rattle.column.specs.Column.{Turned, WordOf, Swept, register};
-ghost use Rattle.moves.specs.Moves.{moved, joined, met, reached, IntoFirst};
+ghost use Rattle.pair.specs.Pair.{room, IntoFirst};
+ghost use Rattle.moves.specs.Moves.{moved, joined, met, reached, sustained};
 
 // Word w of a register's column moved down, where both words that it comes from are there; and its last word. The register has the first `words` words.
 fn near_word(s: &[u64], words: usize, by: usize, w: usize) -> u64
@@ -69,6 +70,23 @@ fn meet_words(s: &mut [u64], by: usize, left: usize)
     s[last] = m;
 }
 
+// Those words of the first register, met with its column moved down where the second is clear.
+fn sustain_words(s: &mut [u64], d: usize, by: usize, words: usize, left: usize)
+    requires { ⌜ (words ≡ room d (now s)) × (left ≡ words - by / 64) ⌝ }
+    ensures { λ _. ⌜ Swept 0 (sustained by (register 0 words (now (s .entry))) (register d words (now (s .entry)))) left (now (s .entry)) (now (s .exit)) ⌝ }
+{
+    if left == 0 {
+        return;
+    }
+    let last = left - 1;
+    for w in 0..last {
+        let m = s[w] & (s[d + w] | near_word(s, words, by, w));
+        s[w] = m;
+    }
+    let m = s[last] & (s[d + last] | last_word(s, words, by, last));
+    s[last] = m;
+}
+
 // Bit t becomes bit t + by.
 pub fn move_down(s: &mut [u64], by: usize)
     ensures { λ _. ⌜ Turned (moved by (now (s .entry))) (now (s .entry)) (now (s .exit)) ⌝ }
@@ -121,4 +139,17 @@ pub fn reach(s: &mut [u64], d: usize, by: usize)
     }
     let m = s[last] | s[d + last] & last_word(s, words, by, last);
     s[last] = m;
+}
+
+// Bit t of the first register becomes that bit, and bit t of the second or bit t + by of the first.
+pub fn sustain(s: &mut [u64], d: usize, by: usize)
+    ensures { λ _. ⌜ IntoFirst (sustained by) d (now (s .entry)) (now (s .exit)) ⌝ }
+{
+    let words = pair::room_of(s.len(), d);
+    let left = words_left(words, by);
+    sustain_words(s, d, by, words, left);
+    for w in left..words {
+        let m = s[w] & s[d + w];
+        s[w] = m;
+    }
 }

@@ -2,19 +2,21 @@
 use Prim.Native.Nat.{ℕ, zero, suc, _+_, _≤_, _<_}
 use native.Mathlib.Nat.{add-zero, zero-add}
 use native.Mathlib.Omega.{arith}
-use mathlib.Core.Path.{_≡_, refl, sym, _∙_}
+use mathlib.Core.Path.{_≡_, refl, sym, ap, ap₂, _∙_}
 use mathlib.Core.Logic.{_⊎_, inl, inr, ⊎-elim}
 use mathlib.Core.Bool.{Bool, true, false, _&&_, _||_}
 use mathlib.Core.List.{List, [], _∷_}
-use borrow.Author.Tests.{eq-eqb, lt-ltb, ltb-true}
+use borrow.Author.Tests.{eq-eqb, le-ltb, lt-ltb, ltb-true}
 use lib.Dec.{eqb, ltb}
-use lib.ListN.{getD, length}
+use lib.ListN.{getD, length, take}
+use lib.Seq.{getD-take, length-take-le}
 use Rattle.lists.specs.Bits.{bit}
-use Rattle.lists.proofs.Bits.{number-bit}
+use Rattle.lists.proofs.Bits.{number-bit, bit-none}
 use Rattle.lists.proofs.Tests.{_also_, or-split, true-left, true-right}
 use Rattle.table.specs.Nodes.{noNode, opOf, usesOf}
 use Rattle.table.specs.declared.Node.{Node}
-use Rattle.needed.specs.Marks.{hasOperand, isNeeded, needed}
+use Rattle.needed.proofs.Bits.{mark-bit}
+use Rattle.needed.specs.Marks.{hasOperand, isNeeded, needed, neededFor, mark, marked, Needs}
 
 left-true : (a b : Bool) → a ≡ true → (a || b) ≡ true
 left-true a b h = rw h
@@ -139,4 +141,34 @@ needed-marked seed ns few = record {
           is-marked = same (c .by) l ∙ (rw zero-add at (c .is-marked));
           used = c .used;
           before = rw zero-add at (c .before);
+        }
+
+-- ---- what one node needs
+pub none-for : (ns : List Node) (k : ℕ) → 64 ≤ k → 0 ≡ neededFor k ns
+unfolding neededFor
+none-for ns k h = rw (le-ltb k 64 h)
+
+module _ (ns : List Node) (k : ℕ) (h : k < 64) where
+  pub found-for : {seed r : ℕ} → seed ≡ mark 0 k → r ≡ needed seed (take (k + 1) ns) → r ≡ neededFor k ns
+  unfolding neededFor
+  found-for e q = rw (lt-ltb k 64 h) (q ∙ ap (λ (s : ℕ). needed s (take (k + 1) ns)) e)
+
+  module _ {r : ℕ} (is : r ≡ neededFor k ns) (l : length ns ≡ 64) where
+    long : length (take (k + 1) ns) ≡ k + 1
+    long = length-take-le (k + 1) ns (omega arith)
+
+    found : Marked (mark 0 k) (take (k + 1) ns) r
+    unfolding neededFor
+    found = rw (is, lt-ltb k 64 h) (needed-marked (mark 0 k) (take (k + 1) ns) (omega (arith, long)))
+
+    follows : (j m : ℕ) → j ≤ k → marked r j ≡ true → m < j → hasOperand (getD ns j noNode) m ≡ true → marked r m ≡ true
+    follows j m b e a u =
+        found .closed j (omega (arith, long)) e m a (ap (λ (x : Node). hasOperand x m) (getD-take (k + 1) ns j noNode (omega arith)) ∙ u)
+
+    pub needs-by : Needs ns k r
+    needs-by =
+        record {
+          top = found .up k h (mark-bit 0 k k h ∙ ap₂ _||_ (bit-none k) (eq-eqb k k refl));
+          left = λ j b e t a. follows j _ b e a (used-left (getD ns j noNode) t);
+          right = λ j b e t a. follows j _ b e a (used-right (getD ns j noNode) t);
         }

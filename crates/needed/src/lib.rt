@@ -5,8 +5,7 @@ ghost use mathlib.Core.Path.{_≡_};
 ghost use Prim.Native.Nat.{min};
 ghost use lib.ListN.{take};
 ghost use Rattle.limits.specs.Limits.{maxNodes};
-ghost use Rattle.lists.specs.Bits.{bit};
-ghost use Rattle.needed.specs.Marks.{mark, needed};
+ghost use Rattle.needed.specs.Marks.{mark, marked, needed, neededFor};
 ghost use Rattle.needed.specs.Code.Steps.{markOperand, markOperands, markNode};
 
 // The marks with one more at place `at`; from place 64 on there is none.
@@ -21,7 +20,7 @@ pub fn mark(marks: u64, at: usize) -> u64
 
 // Whether there is a mark at place `at`.
 pub fn is_marked(marks: u64, at: usize) -> bool
-    ensures { λ r. ⌜ r ≡ bit marks at ⌝ }
+    ensures { λ r. ⌜ r ≡ marked marks at ⌝ }
 {
     if at < MAX_NODES {
         return (marks >> at) % 2 == 1;
@@ -77,4 +76,14 @@ pub fn needed(nodes: [Node; MAX_NODES], count: usize, seed: u64) -> u64
         m = mark_node(m, i, nodes[i]);
     }
     m
+}
+
+// The marks of all that node k needs, itself included; none from place 64 on.
+pub fn needed_for(nodes: [Node; MAX_NODES], k: usize) -> u64
+    ensures { λ r. ⌜ r ≡ neededFor k nodes ⌝ }
+{
+    if MAX_NODES <= k {
+        return 0;
+    }
+    needed(nodes, k + 1, mark(0, k))
 }

@@ -1,6 +1,7 @@
 -- Which places fit: the tests, and what they say. Assumes nothing.
 use mathlib.Core.Path.{_≡_, sym, ap, _∙_}
-use mathlib.Core.Bool.{Bool, true, false, not, _&&_}
+use mathlib.Core.Logic.{_⊎_, inl, inr}
+use mathlib.Core.Bool.{Bool, true, false, not, _&&_, _||_, or-true}
 use mathlib.Core.List.{List}
 use Prim.Native.Nat.{ℕ, _+_, _-_, _≤_, _<_}
 use native.Mathlib.Omega.{arith}
@@ -10,7 +11,7 @@ use lib.ListN.{length}
 use Rattle.lists.specs.Choice.{pick}
 use Rattle.lists.proofs.Tests.{true-left, true-right, _also_, same-test, leb-iff}
 use Rattle.interval.specs.Parts.{badInterval}
-use Rattle.operators.specs.Operators.{oneFits, twoFit, fourFit, Operand}
+use Rattle.operators.specs.Operators.{oneFits, copyFits, twoFit, fourFit, Operand}
 
 -- ---- by a test, another list or the list as it was
 pub stays : (xs ys : List ℕ) {t : Bool} → t ≡ false → xs ≡ pick t ys xs
@@ -72,6 +73,11 @@ module _ (t : Bool) (lo hi : ℕ) (e : (t && not (badInterval lo hi)) ≡ true) 
 -- ---- what a caller shows
 pub one-fits : {a b m : ℕ} {xs : List ℕ} → Operand a b m xs → oneFits a b m (length xs) ≡ true
 one-fits {a} {b} {m} {xs} h = le-leb (a + m) b (h .before) also le-leb (b + m) (length xs) (h .enough)
+
+-- a copy, of an operand before the result or behind it
+pub copy-fits : {a b m : ℕ} {xs : List ℕ} → Operand a b m xs ⊎ Operand b a m xs → copyFits a b m (length xs) ≡ true
+copy-fits {a} {b} {m} {xs} (inl h) = ap (λ (t : Bool). t || oneFits b a m (length xs)) (one-fits h)
+copy-fits {a} {b} {m} {xs} (inr h) = ap (λ (t : Bool). oneFits a b m (length xs) || t) (one-fits h) ∙ or-true (oneFits a b m (length xs))
 
 pub two-fit : {a c b m : ℕ} {xs : List ℕ} → Operand a b m xs → Operand c b m xs → twoFit a c b m (length xs) ≡ true
 two-fit {a} {c} {b} {m} h k = one-fits h also le-leb (c + m) b (k .before)

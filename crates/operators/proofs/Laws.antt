@@ -14,8 +14,8 @@ use Rattle.lists.proofs.Columns.{bitAt-past}
 use Rattle.column.specs.Column.{register, lay, Laid, Turned}
 use Rattle.column.proofs.Registers.{length-register, register-lay, register-apart, lay-lay}
 use Rattle.column.proofs.Parts.{part-laid, part-turned, laid-length}
-use Rattle.pair.specs.Pair.{both, IntoSecond}
-use Rattle.pair.proofs.Pairs.{part-pair}
+use Rattle.pair.specs.Pair.{both, IntoFirst, IntoSecond}
+use Rattle.pair.proofs.Pairs.{first, second, part-pair}
 use Rattle.windows.proofs.Lays.{held}
 
 -- the part from the register at a to the end of that at b
@@ -23,9 +23,14 @@ pub lent : (op : List ℕ → List ℕ → ℕ → Bool) {a b m : ℕ} {xs : Lis
     → IntoSecond op (b - a) (midOf a (b + m - a) xs) ys → Laid b m (op (register b m xs) (register a m xs)) xs (putMid a (b + m - a) xs ys)
 lent op {a} {b} {m} {xs} ys h r =
     let i = h .before in let k = h .enough in
-    let e : a + (b - a) ≡ b = omega arith in
-    subst (λ (at : ℕ). Laid at m (op (register at m xs) (register a m xs)) xs (putMid a (b + m - a) xs ys)) e
-    (part-pair op a (b + m - a) (b - a) m xs (omega (arith, length-register a (b + m - a) xs (omega arith))) (omega arith) (omega arith) (omega arith) r)
+    part-pair op second a (b + m - a) m xs {i = b} {j = a} (omega (arith, length-register a (b + m - a) xs (omega arith))) (omega arith) (omega arith) (omega arith) (omega arith) r
+
+-- the part from the register at b, which is written, to the end of that at a
+pub lent-back : (op : List ℕ → List ℕ → ℕ → Bool) {a b m : ℕ} {xs : List ℕ} (ys : List ℕ) → Operand b a m xs
+    → IntoFirst op (a - b) (midOf b (a + m - b) xs) ys → Laid b m (op (register b m xs) (register a m xs)) xs (putMid b (a + m - b) xs ys)
+lent-back op {a} {b} {m} {xs} ys h r =
+    let i = h .before in let k = h .enough in
+    part-pair op first b (a + m - b) m xs {i = b} {j = a} (omega (arith, length-register b (a + m - b) xs (omega arith))) (omega arith) (omega arith) (omega arith) (omega arith) r
 
 -- the part that is the register at b, turned
 pub part-whole : {b m : ℕ} {f : ℕ → Bool} {xs : List ℕ} (ys : List ℕ) → b + m ≤ length xs → Turned f (midOf b (b + m - b) xs) ys

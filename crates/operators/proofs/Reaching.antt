@@ -7,49 +7,44 @@ use mathlib.Core.List.{List, _++_}
 use Prim.Native.Nat.{ℕ, _+_, _-_, _*_, _^_, _≤_}
 use native.Mathlib.Nat.{add-zero}
 use native.Mathlib.Omega.{arith}
-use borrow.Rule.Slice.PartMut.{putMid, midOf, take-put, put-same, same-len-mid}
+use borrow.Rule.Slice.PartMut.{putMid, midOf, take-put, put-same}
 use lib.Dec.{ltb, eqb}
-use lib.ListN.{length, getD, take, drop}
-use lib.Seq.{drop-at, take-at, length-take-le}
+use lib.ListN.{length, getD}
+use lib.Seq.{drop-drop}
 use Rattle.lists.specs.Bits.{bitAt, pack, below}
 use Rattle.lists.specs.Choice.{pick}
 use Rattle.mltl.specs.Mltl.{until, opposite}
+use Rattle.mltl.specs.Known.{wholeRelease}
 use Rattle.interval.specs.Parts.{badInterval, parts}
 use Rattle.column.specs.Column.{register, lay, Laid}
 use Rattle.column.proofs.Registers.{length-register, length-lay, lay-lay, register-apart}
-use Rattle.column.proofs.Parts.{register-part, part-laid, laid-length}
-use Rattle.windows.specs.Windows.{third, misplaced, Three, all, used, untilLater, releaseLater}
+use Rattle.column.proofs.Parts.{register-part, put-here, put-long, put-after, part-laid, laid-length}
+use Rattle.windows.specs.Windows.{third, misplaced, Three, all, any, used, untilLater, releaseLater, wholeReleaseLater}
 use Rattle.windows.proofs.Lays.{lay-swap, used-length, used-swap}
 use Rattle.windows.proofs.Results.{three-fits}
-use Rattle.operators.specs.Operators.{worked, untilLaid, releaseLaid, Operand}
+use Rattle.operators.specs.Operators.{worked, untilLaid, releaseLaid, wholeReleaseLaid, Operand}
 use Rattle.operators.proofs.Fits.{Four}
 use Rattle.operators.proofs.Laws.{laid-bits}
 
 -- ---- lists put in the place of a part
 module _ (a k : ℕ) (xs ys : List ℕ) (h : a + k ≤ length xs) (n : length ys ≡ k) where
-  rest : drop a (putMid a k xs ys) ≡ ys ++ drop k (drop a xs)
-  rest = drop-at (take a xs) (ys ++ drop k (drop a xs)) a (length-take-le a xs (omega arith))
-
-  mid-put : midOf a k (putMid a k xs ys) ≡ ys
-  mid-put = ap (take k) rest ∙ take-at ys (drop k (drop a xs)) k n
-
   put-put : (zs : List ℕ) → putMid a k (putMid a k xs ys) zs ≡ putMid a k xs zs
   put-put zs =
-      ap₂ (λ (u v : List ℕ). u ++ (zs ++ v)) (take-put a k xs ys (omega arith)) (ap (drop k) rest ∙ drop-at ys (drop k (drop a xs)) k n)
+      ap₂ (λ (u v : List ℕ). u ++ (zs ++ v)) (take-put a k xs ys (omega arith))
+      (drop-drop k a (putMid a k xs ys) ∙ put-after a k xs ys h n (a + k) (omega arith) ∙ sym (drop-drop k a xs))
 
   -- a column laid in what is put back is laid in the whole
   put-lay : (d m : ℕ) (f : ℕ → Bool) → d + m ≤ k → putMid a k xs (lay d m f ys) ≡ lay (a + d) m f (putMid a k xs ys)
   put-lay d m f l =
-      let long : length (putMid a k xs ys) ≡ length xs = same-len-mid a k xs ys (n ∙ sym (length-register a k xs h)) in
-      let p : Laid d m f (midOf a k (putMid a k xs ys)) (lay d m f ys) = record { is = ap (lay d m f) (sym mid-put) } in
-      sym (put-put (lay d m f ys)) ∙ part-laid a k (putMid a k xs ys) (omega arith) l p .is
+      let p : Laid d m f (midOf a k (putMid a k xs ys)) (lay d m f ys) = record { is = ap (lay d m f) (sym (put-here a k xs ys h n)) } in
+      sym (put-put (lay d m f ys)) ∙ part-laid a k (putMid a k xs ys) (omega (arith, put-long a k xs ys h n)) l p .is
 
-put-used : (a k : ℕ) (xs : List ℕ) (e m : ℕ) (ks : List ℕ) (f : ℕ → Bool) → a + k ≤ length xs → e + m ≤ k
-    → putMid a k xs (used e m ks f (midOf a k xs)) ≡ used (a + e) m ks f xs
-put-used a k xs e m ks f h l = go (eqb (length ks) 0)
+put-used : (Q : ℕ → (ℕ → Bool) → ℕ → Bool) (a k : ℕ) (xs : List ℕ) (e m : ℕ) (ks : List ℕ) (f : ℕ → Bool) → a + k ≤ length xs → e + m ≤ k
+    → putMid a k xs (used Q e m ks f (midOf a k xs)) ≡ used Q (a + e) m ks f xs
+put-used Q a k xs e m ks f h l = go (eqb (length ks) 0)
   where
     column : ℕ → Bool
-    column = all (2 ^ getD ks (length ks - 1) 0) f
+    column = Q (2 ^ getD ks (length ks - 1) 0) f
 
     go : (t : Bool) → putMid a k xs (pick t (midOf a k xs) (lay e m column (midOf a k xs))) ≡ pick t xs (lay (a + e) m column xs)
     go true = put-same a k xs
@@ -109,13 +104,13 @@ module _ {a c b l w m : ℕ} {xs ys zs : List ℕ} (h : Four a c b l w m (length
       record { low = omega (arith, long-p); high = omega (arith, long-p); apart = omega (arith, long-p) }
 
   -- what was laid in the part
-  lifted : (ks : List ℕ) (f g : ℕ → Bool) → putMid b wide zs (lay 0 m f (lay (l - b) m g (used (w - b) m ks g part))) ≡ worked b l w m ks f g zs
+  lifted : (Q : ℕ → (ℕ → Bool) → ℕ → Bool) (ks : List ℕ) (f g : ℕ → Bool) → putMid b wide zs (lay 0 m f (lay (l - b) m g (used Q (w - b) m ks g part))) ≡ worked Q b l w m ks f g zs
   unfolding worked
-  lifted ks f g =
+  lifted Q ks f g =
       let i = h .result in
       let j = h .copy in
-      let U : List ℕ = used (w - b) m ks g part in
-      let u : length U ≡ wide = used-length (w - b) m ks g part (omega (arith, long-p)) ∙ long-p in
+      let U : List ℕ = used Q (w - b) m ks g part in
+      let u : length U ≡ wide = used-length Q (w - b) m ks g part (omega (arith, long-p)) ∙ long-p in
       let v : length (lay (l - b) m g U) ≡ wide = length-lay (l - b) m g U (omega arith) ∙ u in
       let el : b + (l - b) ≡ l = omega arith in
       let ew : b + (w - b) ≡ w = omega arith in
@@ -123,34 +118,34 @@ module _ {a c b l w m : ℕ} {xs ys zs : List ℕ} (h : Four a c b l w m (length
       ∙ ap₂ (λ (at : ℕ) (z : List ℕ). lay at m f z) (add-zero b)
       (put-lay b wide zs U room u (l - b) m g (omega arith)
       ∙ ap₂ (λ (at : ℕ) (z : List ℕ). lay at m g z) el
-      (put-used b wide zs (w - b) m ks g room (omega arith) ∙ ap (λ (at : ℕ). used at m ks g zs) ew))
+      (put-used Q b wide zs (w - b) m ks g room (omega arith) ∙ ap (λ (at : ℕ). used Q at m ks g zs) ew))
 
   -- what was loaded is gone
-  loads-gone : (ks : List ℕ) (f g : ℕ → Bool) → worked b l w m ks f g zs ≡ worked b l w m ks f g xs
+  loads-gone : (Q : ℕ → (ℕ → Bool) → ℕ → Bool) (ks : List ℕ) (f g : ℕ → Bool) → worked Q b l w m ks f g zs ≡ worked Q b l w m ks f g xs
   unfolding worked
-  loads-gone ks f g =
+  loads-gone Q ks f g =
       let i = h .result in
       let j = h .copy in
       let k = h .work in
       let A : ℕ → Bool = bitAt (register a m ys) in
       let C : ℕ → Bool = bitAt (register c m xs) in
-      let U : List ℕ = used w m ks g xs in
-      let u : length U ≡ length xs = used-length w m ks g xs k in
+      let U : List ℕ = used Q w m ks g xs in
+      let u : length U ≡ length xs = used-length Q w m ks g xs k in
       let v : length (lay b m C U) ≡ length xs = length-lay b m C U (omega (arith, fits-b)) ∙ u in
       let x : length (lay l m g U) ≡ length xs = length-lay l m g U (omega (arith, fits-l)) ∙ u in
       ap (λ (z : List ℕ). lay b m f (lay l m g z))
-      (ap (used w m ks g) (q .is) ∙ used-swap w m ks g ys (omega (arith, long-y)) l m A j
-      ∙ ap (lay l m A) (ap (used w m ks g) (p .is) ∙ used-swap w m ks g xs k b m C (omega arith)))
+      (ap (used Q w m ks g) (q .is) ∙ used-swap Q w m ks g ys (omega (arith, long-y)) l m A j
+      ∙ ap (lay l m A) (ap (used Q w m ks g) (p .is) ∙ used-swap Q w m ks g xs k b m C (omega arith)))
       ∙ ap (lay b m f) (lay-lay l m A (lay b m C U) (omega (arith, v, fits-l)) g ∙ lay-swap b m C l m g U i (omega (arith, u, fits-l)))
       ∙ lay-lay b m C (lay l m g U) (omega (arith, x, fits-b)) f
 
-  reaching : (F : ℕ → (ℕ → Bool) → (ℕ → Bool) → ℕ → Bool) (G : ℕ → (ℕ → Bool) → ℕ → Bool) (ks : List ℕ) {us : List ℕ}
+  reaching : (Q : ℕ → (ℕ → Bool) → ℕ → Bool) (F : ℕ → (ℕ → Bool) → (ℕ → Bool) → ℕ → Bool) (G : ℕ → (ℕ → Bool) → ℕ → Bool) (ks : List ℕ) {us : List ℕ}
       → us ≡ lay 0 (third (w - b) part)
       (F (third (w - b) part) (bitAt (register (l - b) (third (w - b) part) part)) (bitAt (register 0 (third (w - b) part) part)))
       (lay (l - b) (third (w - b) part) (G (third (w - b) part) (bitAt (register (l - b) (third (w - b) part) part)))
-      (used (w - b) (third (w - b) part) ks (G (third (w - b) part) (bitAt (register (l - b) (third (w - b) part) part))) part))
-      → putMid b wide zs us ≡ worked b l w m ks (F m (bitAt (register a m xs)) (bitAt (register c m xs))) (G m (bitAt (register a m xs))) xs
-  reaching F G ks r =
+      (used Q (w - b) (third (w - b) part) ks (G (third (w - b) part) (bitAt (register (l - b) (third (w - b) part) part))) part))
+      → putMid b wide zs us ≡ worked Q b l w m ks (F m (bitAt (register a m xs)) (bitAt (register c m xs))) (G m (bitAt (register a m xs))) xs
+  reaching Q F G ks r =
       let i = h .result in
       let j = h .copy in
       let e : third (w - b) part ≡ m = omega (arith, long-p) in
@@ -166,9 +161,9 @@ module _ {a c b l w m : ℕ} {xs ys zs : List ℕ} (h : Four a c b l w m (length
       (r
       ∙ ap (λ (k : ℕ).
       lay 0 k (F k (bitAt (register (l - b) k part)) (bitAt (register 0 k part)))
-      (lay (l - b) k (G k (bitAt (register (l - b) k part))) (used (w - b) k ks (G k (bitAt (register (l - b) k part))) part))) e
-      ∙ ap₂ (λ (f g : ℕ → Bool). lay 0 m (F m f g) (lay (l - b) m (G m f) (used (w - b) m ks (G m f) part))) x y)
-      ∙ lifted ks (F m A (bitAt (register c m xs))) (G m A) ∙ loads-gone ks (F m A (bitAt (register c m xs))) (G m A)
+      (lay (l - b) k (G k (bitAt (register (l - b) k part))) (used Q (w - b) k ks (G k (bitAt (register (l - b) k part))) part))) e
+      ∙ ap₂ (λ (f g : ℕ → Bool). lay 0 m (F m f g) (lay (l - b) m (G m f) (used Q (w - b) m ks (G m f) part))) x y)
+      ∙ lifted Q ks (F m A (bitAt (register c m xs))) (G m A) ∙ loads-gone Q ks (F m A (bitAt (register c m xs))) (G m A)
 
   module _ (lo hi : ℕ) (fine : badInterval lo hi ≡ false) where
     placed : (badInterval lo hi || misplaced (l - b) (w - b) (length part)) ≡ false
@@ -178,13 +173,20 @@ module _ {a c b l w m : ℕ} {xs ys zs : List ℕ} (h : Four a c b l w m (length
         → putMid b wide zs us ≡ untilLaid a c b l w m lo hi xs
     unfolding untilLater
     until-laid r =
-        reaching (λ k f g. until (64 * k) lo hi f g) (λ k f t. f (t + lo)) (parts (hi - lo)) (r ∙ ap (λ (t : Bool). pick t part (untilLater (l - b) (w - b) lo hi part)) placed)
+        reaching all (λ k f g. until (64 * k) lo hi f g) (λ k f t. f (t + lo)) (parts (hi - lo)) (r ∙ ap (λ (t : Bool). pick t part (untilLater (l - b) (w - b) lo hi part)) placed)
+
+    pub whole-release-laid : {us : List ℕ}
+        → us ≡ pick (badInterval lo hi || misplaced (l - b) (w - b) (length part)) part (wholeReleaseLater (l - b) (w - b) lo hi part)
+        → putMid b wide zs us ≡ wholeReleaseLaid a c b l w m lo hi xs
+    unfolding wholeReleaseLater
+    whole-release-laid r =
+        reaching any (λ k. wholeRelease lo hi) (λ k f t. f (t + lo)) (parts (hi - lo)) (r ∙ ap (λ (t : Bool). pick t part (wholeReleaseLater (l - b) (w - b) lo hi part)) placed)
 
     pub release-laid : (n : ℕ) {us : List ℕ}
         → us ≡ pick (badInterval lo hi || misplaced (l - b) (w - b) (length part)) part (releaseLater (l - b) (w - b) lo hi n part)
         → putMid b wide zs us ≡ releaseLaid a c b l w m lo hi n xs
     unfolding releaseLater
     release-laid n r =
-        reaching (λ k f g. below n (opposite (until (64 * k) lo hi (λ t. ltb t n && not (f t)) (λ t. ltb t n && not (g t)))))
+        reaching all (λ k f g. below n (opposite (until (64 * k) lo hi (λ t. ltb t n && not (f t)) (λ t. ltb t n && not (g t)))))
         (λ k f t. bitAt (pack k (λ u. ltb u n && not (f u))) (t + lo)) (parts (hi - lo))
         (r ∙ ap (λ (t : Bool). pick t part (releaseLater (l - b) (w - b) lo hi n part)) placed)

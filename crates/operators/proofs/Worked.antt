@@ -12,7 +12,7 @@ use Rattle.lists.specs.Choice.{pick}
 use Rattle.lists.proofs.Columns.{length-pack}
 use Rattle.column.specs.Column.{register, lay}
 use Rattle.column.proofs.Registers.{length-lay, register-lay, take-lay}
-use Rattle.windows.specs.Windows.{all, used}
+use Rattle.windows.specs.Windows.{used}
 use Rattle.windows.proofs.Lays.{used-length}
 use Rattle.operators.specs.Operators.{worked}
 
@@ -29,18 +29,18 @@ module _ (at m : ℕ) (f : ℕ → Bool) (xs : List ℕ) (h : at + m ≤ length 
       ∙ drop-drop (k - (at + m)) (at + m) xs ∙ ap (λ (i : ℕ). drop i xs) e
 
 -- ---- the register that was used
-module _ (w m : ℕ) (ks : List ℕ) (g : ℕ → Bool) (xs : List ℕ) (h : w + m ≤ length xs) (k : ℕ) where
+module _ (Q : ℕ → (ℕ → Bool) → ℕ → Bool) (w m : ℕ) (ks : List ℕ) (g : ℕ → Bool) (xs : List ℕ) (h : w + m ≤ length xs) (k : ℕ) where
   abbrev column : ℕ → Bool
-  column = all (2 ^ getD ks (length ks - 1) 0) g
+  column = Q (2 ^ getD ks (length ks - 1) 0) g
 
-  used-low : k ≤ w → take k (used w m ks g xs) ≡ take k xs
+  used-low : k ≤ w → take k (used Q w m ks g xs) ≡ take k xs
   used-low l = go (eqb (length ks) 0)
     where
       go : (t : Bool) → take k (pick t xs (lay w m column xs)) ≡ take k xs
       go true = refl
       go false = take-below w m column xs h k l
 
-  used-high : w + m ≤ k → drop k (used w m ks g xs) ≡ drop k xs
+  used-high : w + m ≤ k → drop k (used Q w m ks g xs) ≡ drop k xs
   used-high l = go (eqb (length ks) 0)
     where
       go : (t : Bool) → drop k (pick t xs (lay w m column xs)) ≡ drop k xs
@@ -48,12 +48,12 @@ module _ (w m : ℕ) (ks : List ℕ) (g : ℕ → Bool) (xs : List ℕ) (h : w +
       go false = drop-above w m column xs h k l
 
 -- ---- the three registers of U and R
-module _ (b l w m : ℕ) (ks : List ℕ) (f g : ℕ → Bool) (xs : List ℕ) (h : b + m ≤ l) (j : l + m ≤ w) (k : w + m ≤ length xs) where
+module _ (Q : ℕ → (ℕ → Bool) → ℕ → Bool) (b l w m : ℕ) (ks : List ℕ) (f g : ℕ → Bool) (xs : List ℕ) (h : b + m ≤ l) (j : l + m ≤ w) (k : w + m ≤ length xs) where
   abbrev under : List ℕ
-  under = used w m ks g xs
+  under = used Q w m ks g xs
 
   long : length under ≡ length xs
-  long = used-length w m ks g xs k
+  long = used-length Q w m ks g xs k
 
   fits : l + m ≤ length under
   fits = omega (arith, long, j, k)
@@ -61,15 +61,15 @@ module _ (b l w m : ℕ) (ks : List ℕ) (f g : ℕ → Bool) (xs : List ℕ) (h
   fits-b : b + m ≤ length (lay l m g under)
   fits-b = omega (arith, length-lay l m g under fits, fits, h)
 
-  pub worked-here : register b m (worked b l w m ks f g xs) ≡ pack m f
+  pub worked-here : register b m (worked Q b l w m ks f g xs) ≡ pack m f
   unfolding worked
   worked-here = register-lay b m f (lay l m g under) fits-b
 
-  pub worked-low : take b (worked b l w m ks f g xs) ≡ take b xs
+  pub worked-low : take b (worked Q b l w m ks f g xs) ≡ take b xs
   unfolding worked
-  worked-low = take-lay b m f (lay l m g under) fits-b ∙ take-below l m g under fits b (omega (arith, h)) ∙ used-low w m ks g xs k b (omega (arith, h, j))
+  worked-low = take-lay b m f (lay l m g under) fits-b ∙ take-below l m g under fits b (omega (arith, h)) ∙ used-low Q w m ks g xs k b (omega (arith, h, j))
 
-  pub worked-high : (i : ℕ) → w + m ≤ i → drop i (worked b l w m ks f g xs) ≡ drop i xs
+  pub worked-high : (i : ℕ) → w + m ≤ i → drop i (worked Q b l w m ks f g xs) ≡ drop i xs
   unfolding worked
   worked-high i e =
-      drop-above b m f (lay l m g under) fits-b i (omega (arith, h, j)) ∙ drop-above l m g under fits i (omega (arith, j)) ∙ used-high w m ks g xs k i e
+      drop-above b m f (lay l m g under) fits-b i (omega (arith, h, j)) ∙ drop-above l m g under fits i (omega (arith, j)) ∙ used-high Q w m ks g xs k i e

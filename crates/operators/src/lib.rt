@@ -11,7 +11,7 @@ ghost use Rattle.lists.specs.Choice.{pick};
 ghost use Rattle.interval.specs.Parts.{badInterval};
 ghost use Rattle.column.specs.Column.{register, Laid};
 ghost use Rattle.pair.specs.Pair.{both};
-ghost use Rattle.operators.specs.Operators.{oneFits, twoFit, fourFit, signalLaid, fillLaid, notLaid, andLaid, orLaid, someLaid, allLaid, untilLaid, releaseLaid, Operand};
+ghost use Rattle.operators.specs.Operators.{oneFits, copyFits, twoFit, fourFit, signalLaid, fillLaid, copyLaid, notLaid, andLaid, orLaid, someLaid, allLaid, wholeLaid, untilLaid, releaseLaid, wholeReleaseLaid, Operand};
 
 // ---- tests
 
@@ -57,6 +57,15 @@ fn load(s: &mut [u64], a: usize, b: usize, m: usize)
     pair::copy_into(&mut s[a..e], b - a);
 }
 
+// The same, where the register at b lies before that at a.
+fn load_back(s: &mut [u64], a: usize, b: usize, m: usize)
+    requires { ⌜ Operand b a m (now s) ⌝ }
+    ensures { λ _. ⌜ Laid b m (bitAt (register a m (now (s .entry)))) (now (s .entry)) (now (s .exit)) ⌝ }
+{
+    let e = a + m;
+    pair::copy_back(&mut s[b..e], a - b);
+}
+
 // Bit t of the register at b becomes that bit and bit t of the register at a.
 fn and_with(s: &mut [u64], a: usize, b: usize, m: usize)
     requires { ⌜ Operand a b m (now s) ⌝ }
@@ -100,6 +109,20 @@ pub fn put_fill(s: &mut [u64], b: usize, m: usize, n: usize)
 }
 
 // ---- registers bit by bit
+
+// Bit t becomes the operand's, which may lie on either side of the result.
+pub fn put_copy(s: &mut [u64], a: usize, b: usize, m: usize)
+    ensures { λ _. ⌜ now (s .exit) ≡ pick (copyFits a b m (length (now (s .entry)))) (copyLaid a b m (now (s .entry))) (now (s .entry)) ⌝ }
+{
+    if one_fits(a, b, m, s.len()) {
+        load(s, a, b, m);
+        return;
+    }
+    if !one_fits(b, a, m, s.len()) {
+        return;
+    }
+    load_back(s, a, b, m);
+}
 
 // The bits below n are the operand's flipped, and the others are clear.
 pub fn put_not(s: &mut [u64], a: usize, b: usize, m: usize, n: usize)
@@ -163,6 +186,20 @@ pub fn put_all(s: &mut [u64], a: usize, b: usize, m: usize, lo: u16, hi: u16, n:
     windows::all_later(&mut s[b..e], lo, hi, n);
 }
 
+// F's no and G's yes while a trace grows: bit t becomes whether all of the operand's bits from t + lo to t + hi are set, those past the words included, which
+// are clear.
+pub fn put_whole(s: &mut [u64], a: usize, b: usize, m: usize, lo: u16, hi: u16)
+    ensures { λ _. ⌜ now (s .exit) ≡ pick (oneFits a b m (length (now (s .entry))) && not (badInterval lo hi)) (wholeLaid a b m lo hi (now (s .entry))) (now (s .entry)) ⌝ }
+{
+    let fit = one_fits(a, b, m, s.len()) & !interval::bad_interval(lo, hi);
+    if !fit {
+        return;
+    }
+    let e = b + m;
+    load(s, a, b, m);
+    windows::whole_later(&mut s[b..e], lo, hi);
+}
+
 // U of the left operand at a and the right one at c. The registers at l, for a copy of the left one, and at w are worked in.
 pub fn put_until(
     s: &mut [u64],
@@ -210,4 +247,29 @@ pub fn put_release(
     load(s, c, b, m);
     load(s, a, l, m);
     windows::release_later(&mut s[b..e], l - b, w - b, lo, hi, n);
+}
+
+// The same registers for U's no and R's yes while a trace grows: bit t becomes whether each bit of the operand at c from t + lo to t + hi is set or has a set
+// bit of the operand at a before it, from t + lo on; those past the words count too, which are clear.
+pub fn put_whole_release(
+    s: &mut [u64],
+    a: usize,
+    c: usize,
+    b: usize,
+    l: usize,
+    w: usize,
+    m: usize,
+    lo: u16,
+    hi: u16,
+)
+    ensures { λ _. ⌜ now (s .exit) ≡ pick (fourFit a c b l w m (length (now (s .entry))) && not (badInterval lo hi)) (wholeReleaseLaid a c b l w m lo hi (now (s .entry))) (now (s .entry)) ⌝ }
+{
+    let fit = four_fit(a, c, b, l, w, m, s.len()) & !interval::bad_interval(lo, hi);
+    if !fit {
+        return;
+    }
+    let e = w + m;
+    load(s, c, b, m);
+    load(s, a, l, m);
+    windows::whole_release_later(&mut s[b..e], l - b, w - b, lo, hi);
 }

@@ -17,3 +17,7 @@ both g c d t = g (bitAt c t) (bitAt d t)
 -- the second becomes what op makes of both
 abbrev pub IntoSecond : (List ℕ → List ℕ → ℕ → Bool) → ℕ → List ℕ → List ℕ → Type 0
 IntoSecond op d xs ys = Laid d (room d xs) (op (register d (room d xs) xs) (register 0 (room d xs) xs)) xs ys
+
+-- the first becomes what op makes of both
+abbrev pub IntoFirst : (List ℕ → List ℕ → ℕ → Bool) → ℕ → List ℕ → List ℕ → Type 0
+IntoFirst op d xs ys = Laid 0 (room d xs) (op (register 0 (room d xs) xs) (register d (room d xs) xs)) xs ys

@@ -4,7 +4,7 @@ ghost use mathlib.Core.Path.{_≡_};
 ghost use mathlib.Core.Bool.{_||_, _&&_};
 ghost use Prim.Native.Nat.{_-_, min};
 ghost use Rattle.lists.specs.Bits.{bitAt};
-ghost use Rattle.pair.specs.Pair.{both, IntoSecond};
+ghost use Rattle.pair.specs.Pair.{both, IntoSecond, IntoFirst};
 
 // How many words each of two registers has in a slice of `len`.
 pub fn room_of(len: usize, d: usize) -> usize
@@ -27,6 +27,17 @@ pub fn copy_into(s: &mut [u64], d: usize)
     for w in 0..words {
         let m = s[w];
         s[d + w] = m;
+    }
+}
+
+// Bit t of the first register becomes bit t of the second.
+pub fn copy_back(s: &mut [u64], d: usize)
+    ensures { λ _. ⌜ IntoFirst (λ a b. bitAt b) d (now (s .entry)) (now (s .exit)) ⌝ }
+{
+    let words = room_of(s.len(), d);
+    for w in 0..words {
+        let m = s[d + w];
+        s[w] = m;
     }
 }
 

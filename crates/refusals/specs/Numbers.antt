@@ -1,4 +1,4 @@
--- The numbers of document 01's refusals.
+-- The numbers of the refusals of documents 01 and 02.
 use Prim.Native.Nat.{ℕ}
 
 -- ---- books, told with a record
@@ -66,3 +66,7 @@ BUFFER = 23
 -- more states in one session than can be counted
 abbrev pub SEEN : ℕ
 SEEN = 24
+
+-- a tick that is not below the states given
+abbrev pub TICK : ℕ
+TICK = 31

@@ -1,4 +1,4 @@
-// The numbers of document 01's refusals. specs/Numbers has the same as definitions, include/juntreak.h with JUNTREAK_ before each.
+// The numbers of the refusals of documents 01 and 02. specs/Numbers has the same as definitions, include/juntreak.h with JUNTREAK_ before each.
 
 // ---- books, told with a record; INTERVAL also of a splitting
 
@@ -35,3 +35,5 @@ pub const STATES: u8 = 22;
 pub const BUFFER: u8 = 23;
 
 pub const SEEN: u8 = 24;
+
+pub const TICK: u8 = 31;

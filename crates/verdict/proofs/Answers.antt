@@ -27,7 +27,8 @@ use Rattle.table.specs.declared.Node.{Node}
 use Rattle.table.specs.declared.Table.{Table}
 use Rattle.column.proofs.Registers.{length-register}
 use Rattle.column.specs.Column.{Turned, register}
-use Rattle.verdict.specs.Code.Steps.{Judgeable, Columns, marked}
+use Rattle.needed.specs.Marks.{marked}
+use Rattle.verdict.specs.Code.Steps.{Judgeable, Columns}
 use Rattle.verdict.specs.Verdict.{Answered, Judged, cleared, enough, fitsTo, wholeNumberFor, wholeNumber, ready, withVerdicts, wholeRows}
 
 -- ---- out and scratch

@@ -1,68 +1,24 @@
 -- The column of a node is its formula's verdicts. Assumes nothing.
-use mathlib.Core.Path.{_≡_, refl, sym, ap, ap₂, _∙_, subst}
+use mathlib.Core.Path.{_≡_, refl, sym, ap, ap₂, _∙_}
 use mathlib.Core.Logic.{⊎-elim}
 use mathlib.Core.Bool.{Bool, true, false, not, _||_, _&&_, false≢true, and-true, and-false}
 use mathlib.Core.List.{List}
-use Prim.Native.Nat.{ℕ, zero, suc, _+_, _*_, _≤_, _<_}
+use Prim.Native.Nat.{ℕ, zero, suc, _*_, _≤_, _<_}
 use native.Mathlib.Omega.{arith}
-use borrow.Author.Tests.{lt-ltb, le-ltb, ne-eqb}
+use borrow.Author.Tests.{le-ltb, ne-eqb}
 use lib.Dec.{ltb, leb, eqb}
 use lib.ListN.{length, getD, List·getD-eq-default}
-use Rattle.limits.specs.Limits.{registerWords}
 use Rattle.lists.specs.Bits.{bit, bitAt, words, pack, packed, below}
 use Rattle.lists.specs.Choice.{pick}
 use Rattle.lists.proofs.Tests.{lt-or-le}
 use Rattle.lists.proofs.Bits.{bit-none}
 use Rattle.lists.proofs.Columns.{pack-ext}
 use Rattle.mltl.specs.Mltl.{Formula, holds, eventually, until, opposite, always, release}
-use Rattle.mltl.proofs.Operators.{ever, eventually-at, until-past}
 use Rattle.column.specs.Column.{flipped, filled}
-use Rattle.column.proofs.Registers.{bitAt-pack-all}
 use Rattle.table.specs.Nodes.{Op, Unknown, Signal, Top, Bottom, Not, And, Or, Finally, Globally, Until, Release, opOf, usesOf, formulaAs}
-use Rattle.table.specs.Sound.{fits}
 use Rattle.table.specs.declared.Node.{Node}
-use Rattle.table.specs.declared.Uses.{Uses}
-use Rattle.table.proofs.Soundness.{fits-iff}
-use Rattle.verdict.specs.Code.Steps.{nodeColumn, Place, Computable}
-use Rattle.windows.proofs.Windows.{until-same}
-
--- ---- columns of n bits
-pub below-past : (n : ℕ) (f : ℕ → Bool) (t : ℕ) → n ≤ t → below n f t ≡ false
-below-past n f t h = rw (le-ltb t n h)
-
-pub below-in : (n : ℕ) (f : ℕ → Bool) (t : ℕ) → t < n → below n f t ≡ f t
-below-in n f t h = rw (lt-ltb t n h)
-
-pub bitAt-packed : (n : ℕ) (f : ℕ → Bool) (t : ℕ) → bitAt (packed n f) t ≡ below n f t
-unfolding packed
-bitAt-packed n f = bitAt-pack-all (words n) (below n f) (λ t h. below-past n f t (omega arith))
-
--- ---- a node that keeps its limits, by the fields that its kind uses
-pub record Fitting (u : Uses) (i : ℕ) (x : Node) : Type 0 where
-  pub ordered : x .lo ≤ x .hi
-  pub interval : u .interval ≡ true → x .hi < 4096
-  pub left : u .left ≡ true → x .left < i
-  pub right : u .right ≡ true → x .right < i
-
-pub fit-as : (k i : ℕ) (x : Node) → x .kind ≡ k → fits i x ≡ true → Fitting (usesOf (opOf k)) i x
-fit-as k i x e h =
-    let f = fits-iff i x .0 h in
-    subst (λ (j : ℕ). Fitting (usesOf (opOf j)) i x) e
-    (record { ordered = f .ordered; interval = f .interval .limited; left = f .left .limited; right = f .right .limited })
-
--- ---- the operators on columns that end at n
-pub until-below : (n N lo hi : ℕ) (a b A B : ℕ → Bool) → n ≤ N → ((i : ℕ) → i < n → a i ≡ A i) → ((i : ℕ) → i < n → b i ≡ B i)
-    → ((i : ℕ) → n ≤ i → b i ≡ false) → (t : ℕ) → until N lo hi a b t ≡ below n (until n lo hi A B) t
-until-below n N lo hi a b A B h e f z t =
-    until-same n N lo hi a b A B h (λ i l r. ⊎-elim (λ (k : i < n). k) (λ (k : n ≤ i). absurd (false≢true (sym (z i k) ∙ r))) (lt-or-le i n)) e f t
-    ∙ ⊎-elim (λ (l : t < n). sym (below-in n (until n lo hi A B) t l))
-    (λ (l : n ≤ t). until-past n lo hi A B t (omega arith) ∙ sym (below-past n (until n lo hi A B) t l)) (lt-or-le t n)
-
-pub eventually-below : (n N lo hi : ℕ) (b B : ℕ → Bool) → n ≤ N → ((i : ℕ) → i < n → b i ≡ B i) → ((i : ℕ) → n ≤ i → b i ≡ false)
-    → (t : ℕ) → eventually N lo hi b t ≡ below n (eventually n lo hi B) t
-eventually-below n N lo hi b B h f z t =
-    eventually-at N lo hi b t ∙ until-below n N lo hi (ever true) b (ever true) B h (λ i l. refl) f z t
-    ∙ ap (λ (x : Bool). ltb t n && x) (sym (eventually-at n lo hi B t))
+use Rattle.layout.proofs.Columns.{below-past, below-in, bitAt-packed, until-below, eventually-below}
+use Rattle.verdict.specs.Code.Steps.{nodeColumn}
 
 and-twice : (l a : Bool) → l && not (l && a) ≡ l && not a
 and-twice true a = refl
@@ -172,10 +128,3 @@ other k a b e f h = constant k a b e f (past 7 refl) (past 8 refl) (past 9 refl)
   where
     past : (j : ℕ) → (leb 7 j && leb j 10) ≡ true → k ≡ j → ⊥
     past j t q = false≢true (sym h ∙ ap (λ (i : ℕ). leb 7 i && leb i 10) q ∙ t)
-
-pub place-of : {i n : ℕ} {x : Node} {xs : List ℕ} → Computable i n x xs → Place (registerWords * i) (words n) xs
-place-of c = let i = c .place in let s = c .short in record { node = omega arith; small = omega arith; enough = c .enough }
-
--- an operand's register lies below the node's
-pub apart : {l i : ℕ} → l < i → registerWords * l + registerWords ≤ registerWords * i
-apart h = omega arith

@@ -1,17 +1,14 @@
--- The columns of the nodes, one after the other, and the marks of those that are needed. Assumes nothing.
-use mathlib.Core.Path.{_≡_, refl, sym, ap, ap₂, _∙_, subst}
+-- The columns of the nodes, one after the other. Assumes nothing.
+use mathlib.Core.Path.{_≡_, refl, sym, ap, _∙_, subst}
 use mathlib.Core.Logic.{⊎-elim}
-use mathlib.Core.Bool.{Bool, true, _||_}
+use mathlib.Core.Bool.{Bool, true}
 use mathlib.Core.List.{List}
 use Prim.Native.Nat.{ℕ, _+_, _*_, _≤_, _<_}
 use native.Mathlib.Nat.{eq-or-lt-of-le}
 use native.Mathlib.Omega.{arith}
-use borrow.Author.Tests.{eq-eqb}
 use lib.ListN.{length, getD, take, drop}
-use lib.Seq.{getD-take, length-take-le}
 use Rattle.limits.specs.Limits.{registerWords, scratchWords}
 use Rattle.lists.specs.Bits.{words, packed}
-use Rattle.lists.proofs.Bits.{bit-none}
 use Rattle.lists.proofs.Tests.{true-or-false}
 use Rattle.mltl.specs.Mltl.{Formula, holds}
 use Rattle.column.specs.Column.{register}
@@ -19,12 +16,11 @@ use Rattle.table.specs.Nodes.{opOf, noNode, formulaAt}
 use Rattle.table.specs.Sound.{fits}
 use Rattle.table.specs.declared.Node.{Node}
 use Rattle.table.proofs.Delays.{formula-at, formula-prefix}
-use Rattle.needed.specs.Marks.{hasOperand, mark, needed}
-use Rattle.needed.proofs.Bits.{mark-bit}
-use Rattle.needed.proofs.Marked.{Marked, needed-marked, used-left, used-right}
-use Rattle.verdict.specs.Code.Steps.{Maybe, Columns, columnIn, marked, Needs}
-use Rattle.verdict.proofs.Steps.{kept-register}
-use Rattle.verdict.proofs.Nodes.{fit-as, column-is}
+use Rattle.needed.specs.Marks.{marked, Needs}
+use Rattle.layout.proofs.Fitting.{fit-as}
+use Rattle.layout.proofs.Runs.{held-more}
+use Rattle.verdict.specs.Code.Steps.{Maybe, Columns, columnIn}
+use Rattle.verdict.proofs.Nodes.{column-is}
 
 -- ---- one node more
 pub run-start : (ns : List Node) (marks : ℕ) (trace xs : List ℕ) → Columns 0 ns marks trace xs xs
@@ -52,9 +48,6 @@ module _ {ns : List Node} {marks : ℕ} {trace s₀ s s′ : List ℕ} (top i : 
       ⊎-elim (λ m. let p = both .step m in (p .low, p .high))
       (λ m. let p = both .stay m in (ap (take (registerWords * i)) p, ap (drop scratchWords) p)) (true-or-false (marked marks i))
 
-  below : (j : ℕ) → j < i → marked marks j ≡ true → register (registerWords * j) (words n) s′ ≡ packed n (holds (formulaAt ns j) trace)
-  below j h m = kept-register (registerWords * i) (registerWords * j) (words n) s s′ (kept .0) (omega arith) (omega arith) (omega arith) ∙ r .at j h m
-
   here : marked marks i ≡ true → register (registerWords * i) (words n) s′ ≡ packed n (holds (formulaAt ns i) trace)
   unfolding columnIn
   here m =
@@ -72,29 +65,6 @@ module _ {ns : List Node} {marks : ℕ} {trace s₀ s s′ : List ℕ} (top i : 
   pub run-more : Columns (i + 1) ns marks trace s₀ s′
   run-more =
       record {
-        at = λ j h m.
-            ⊎-elim (λ (e : j ≡ i). subst (λ (w : ℕ). marked marks w ≡ true → register (registerWords * w) (words n) s′ ≡ packed n (holds (formulaAt ns w) trace)) (sym e) here m)
-            (λ (e : j < i). below j e m) (eq-or-lt-of-le (omega arith));
+        at = held-more i (words n) marks (λ j. packed n (holds (formulaAt ns j) trace)) s s′ a (omega arith) l (omega arith) (kept .0) here (r .at);
         high = kept .1 ∙ r .high;
-      }
-
--- ---- the marks
--- those of what node k needs among the nodes up to it
-module _ (ns : List Node) (k : ℕ) (h : k < 64) {seed r : ℕ} (es : seed ≡ mark 0 k) (er : r ≡ needed seed (take (k + 1) ns)) (l : length ns ≡ 64) where
-  long : length (take (k + 1) ns) ≡ k + 1
-  long = length-take-le (k + 1) ns (omega arith)
-
-  found : Marked (mark 0 k) (take (k + 1) ns) r
-  found = rw (er, es) (needed-marked (mark 0 k) (take (k + 1) ns) (omega (arith, long)))
-
-  follows : (j m : ℕ) → j ≤ k → marked r j ≡ true → m < j → hasOperand (getD ns j noNode) m ≡ true → marked r m ≡ true
-  follows j m b e a u =
-      found .closed j (omega (arith, long)) e m a (ap (λ (x : Node). hasOperand x m) (getD-take (k + 1) ns j noNode (omega arith)) ∙ u)
-
-  pub needs-by : Needs ns k r
-  needs-by =
-      record {
-        top = found .up k h (mark-bit 0 k k h ∙ ap₂ _||_ (bit-none k) (eq-eqb k k refl));
-        left = λ j b e t a. follows j _ b e a (used-left (getD ns j noNode) t);
-        right = λ j b e t a. follows j _ b e a (used-right (getD ns j noNode) t);
       }

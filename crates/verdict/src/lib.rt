@@ -2,16 +2,18 @@
 ghost use mathlib.Core.Path.{_≡_};
 ghost use mathlib.Core.List.{List, _++_};
 ghost use Prim.Native.Nat.{ℕ, _+_, _*_, _≤_, _<_};
-ghost use lib.Dec.{eqb};
 ghost use lib.ListN.{length};
 ghost use lib.Seq.{paste};
-ghost use Rattle.limits.specs.Limits.{maxNodes, registerWords};
+ghost use Rattle.limits.specs.Limits.{registerWords, scratchWords};
 ghost use Rattle.lists.specs.Bits.{words};
-ghost use Rattle.lists.specs.Choice.{pick, first};
+ghost use Rattle.lists.specs.Choice.{first};
 ghost use Rattle.column.specs.Column.{register};
 ghost use Rattle.verdict.specs.Verdict.{withVerdicts, cleared, fitsTo, enough, Judged, wholeRows, Answered};
 ghost use Rattle.table.specs.Nodes.{formulaAt};
-ghost use Rattle.verdict.specs.Code.Steps.{Step, Maybe, columnIn, Computable, Needs, Columns, Runnable, Judgeable};
+ghost use Rattle.layout.specs.Layout.{Step, Computable, Runnable};
+ghost use Rattle.verdict.specs.Code.Steps.{Maybe, columnIn, Columns, Judgeable};
+use layout::LEFT;
+use layout::WORK;
 use limits::MAX_NODES;
 use limits::MAX_TRACE;
 use limits::REGISTER_WORDS;
@@ -19,23 +21,11 @@ use limits::SCRATCH_WORDS;
 use table::Node;
 use table::Table;
 
-// For U and R two more registers follow those of the nodes: one for the left operand, and one to work in.
-const LEFT: usize = MAX_NODES * REGISTER_WORDS;
-
-const WORK: usize = LEFT + REGISTER_WORDS;
-
 // ---- nodes: m words of each register are used
-
-// How many bits of a constant's column are set: n for true.
-fn bits_of(kind: u8, n: usize) -> usize
-    ensures { λ r. ⌜ r ≡ pick (eqb kind 2) n 0 ⌝ }
-{
-    if kind == 2 { n } else { 0 }
-}
 
 // The column of node x at place i, whose kind is F, G, U or R. No state is read.
 fn window_step(s: &mut [u64], x: Node, i: usize, n: usize)
-    requires { ⌜ Computable i n x (now s) × (7 ≤ x .kind) × (x .kind ≤ 10) ⌝ }
+    requires { ⌜ Computable scratchWords i n x (now s) × (7 ≤ x .kind) × (x .kind ≤ 10) ⌝ }
     ensures { λ _. ⌜ ((states : List ℕ) → Step (registerWords * i) (words n) (columnIn x n states (now (s .entry))) (now (s .entry)) (now (s .exit))) ⌝ }
 {
     let m = (n + 63) / 64;
@@ -62,7 +52,7 @@ fn window_step(s: &mut [u64], x: Node, i: usize, n: usize)
 
 // The column of node x at place i, of any kind but a signal. No state is read.
 fn stateless_step(s: &mut [u64], x: Node, i: usize, n: usize)
-    requires { ⌜ Computable i n x (now s) × (x .kind ≡ 1 → ⊥) ⌝ }
+    requires { ⌜ Computable scratchWords i n x (now s) × (x .kind ≡ 1 → ⊥) ⌝ }
     ensures { λ _. ⌜ ((states : List ℕ) → Step (registerWords * i) (words n) (columnIn x n states (now (s .entry))) (now (s .entry)) (now (s .exit))) ⌝ }
 {
     let m = (n + 63) / 64;
@@ -86,12 +76,12 @@ fn stateless_step(s: &mut [u64], x: Node, i: usize, n: usize)
         operators::put_or(s, a, c, b, m);
         return;
     }
-    operators::put_fill(s, b, m, bits_of(k, n));
+    operators::put_fill(s, b, m, layout::bits_of(k, n));
 }
 
 // The column of node x at place i.
 fn node_step(s: &mut [u64], x: Node, i: usize, n: usize, older: &[u32], newer: &[u32])
-    requires { ⌜ Computable i n x (now s) ⌝ }
+    requires { ⌜ Computable scratchWords i n x (now s) ⌝ }
     ensures { λ _. ⌜ Step (registerWords * i) (words n) (columnIn x n (now (older .entry) ++ now (newer .entry)) (now (s .entry))) (now (s .entry)) (now (s .exit)) ⌝ }
 {
     let m = (n + 63) / 64;
@@ -105,7 +95,7 @@ fn node_step(s: &mut [u64], x: Node, i: usize, n: usize, older: &[u32], newer: &
 
 // The column of node x at place i, where `on`.
 fn step_if(on: bool, s: &mut [u64], x: Node, i: usize, n: usize, older: &[u32], newer: &[u32])
-    requires { ⌜ Computable i n x (now s) ⌝ }
+    requires { ⌜ Computable scratchWords i n x (now s) ⌝ }
     ensures { λ _. ⌜ Maybe on (registerWords * i) (words n) (columnIn x n (now (older .entry) ++ now (newer .entry)) (now (s .entry))) (now (s .entry)) (now (s .exit)) ⌝ }
 {
     if on {
@@ -115,18 +105,9 @@ fn step_if(on: bool, s: &mut [u64], x: Node, i: usize, n: usize, older: &[u32], 
 
 // ---- the evaluation
 
-// The marks of the nodes that node k needs.
-fn marks_for(t: Table, k: usize) -> u64
-    requires { ⌜ k < maxNodes ⌝ }
-    ensures { λ r. ⌜ Needs (t .nodes) k r ⌝ }
-{
-    let nodes = t.nodes;
-    needed::needed(nodes, k + 1, needed::mark(0, k))
-}
-
 // The columns of the marked ones of the first `upto` nodes.
 fn run(t: Table, marks: u64, upto: usize, older: &[u32], newer: &[u32], s: &mut [u64])
-    requires { ⌜ Runnable upto (t .nodes) marks (now older ++ now newer) (now s) ⌝ }
+    requires { ⌜ Runnable scratchWords upto (t .nodes) marks (now older ++ now newer) (now s) ⌝ }
     ensures { λ _. ⌜ Columns upto (t .nodes) marks (now (older .entry) ++ now (newer .entry)) (now (s .entry)) (now (s .exit)) ⌝ }
 {
     let n = older.len() + newer.len();
@@ -160,7 +141,8 @@ fn evaluate(
     ensures { λ _. ⌜ (now (out .exit) ≡ withVerdicts (formulaAt (t .nodes) k) (now (older .entry) ++ now (newer .entry)) count (now (out .entry))) × (now (scratch .exit) ≡ cleared (now (scratch .entry))) ⌝ }
 {
     let m = (count + 63) / 64;
-    let marks = marks_for(t, k);
+    let nodes = t.nodes;
+    let marks = needed::needed_for(nodes, k);
     run(t, marks, k + 1, older, newer, scratch);
     copy_out(scratch, REGISTER_WORDS * k, m, out);
     column::keep_below(&mut out[0..m], count);

@@ -15,7 +15,7 @@ use Rattle.lists.proofs.Tests.{lt-or-le}
 use Rattle.lists.proofs.Columns.{length-pack}
 use Rattle.column.specs.Column.{register, lay}
 use Rattle.column.proofs.Registers.{paste-low, paste-in, paste-high, bitAt-pack-all, length-lay, lay-lay, register-apart}
-use Rattle.windows.specs.Windows.{all, used}
+use Rattle.windows.specs.Windows.{used}
 
 -- a register that holds a column which ends with it
 pub held : (m : ℕ) (f : ℕ → Bool) {c : List ℕ} → c ≡ pack m f → ((t : ℕ) → 64 * m ≤ t → f t ≡ false) → bitAt c ≡ f
@@ -80,11 +80,11 @@ module _ (d m : ℕ) (xs : List ℕ) (a : m ≤ d) (l : d + m ≤ length xs) whe
       ∙ ap (lay 0 m f) (lay-lay d m g′ xs l g)
 
 -- ---- the register that is used
-module _ (e m : ℕ) (ks : List ℕ) (f : ℕ → Bool) (xs : List ℕ) (l : e + m ≤ length xs) where
+module _ (Q : ℕ → (ℕ → Bool) → ℕ → Bool) (e m : ℕ) (ks : List ℕ) (f : ℕ → Bool) (xs : List ℕ) (l : e + m ≤ length xs) where
   abbrev column : ℕ → Bool
-  column = all (2 ^ getD ks (length ks - 1) 0) f
+  column = Q (2 ^ getD ks (length ks - 1) 0) f
 
-  pub used-length : length (used e m ks f xs) ≡ length xs
+  pub used-length : length (used Q e m ks f xs) ≡ length xs
   used-length = go (eqb (length ks) 0)
     where
       go : (b : Bool) → length (pick b xs (lay e m column xs)) ≡ length xs
@@ -92,21 +92,21 @@ module _ (e m : ℕ) (ks : List ℕ) (f : ℕ → Bool) (xs : List ℕ) (l : e +
       go false = length-lay e m column xs l
 
   -- every register below is as it was
-  pub used-below : (at k : ℕ) → at + k ≤ e → register at k (used e m ks f xs) ≡ register at k xs
+  pub used-below : (at k : ℕ) → at + k ≤ e → register at k (used Q e m ks f xs) ≡ register at k xs
   used-below at k h = go (eqb (length ks) 0)
     where
       go : (b : Bool) → register at k (pick b xs (lay e m column xs)) ≡ register at k xs
       go true = refl
       go false = register-apart e m column xs l at k (omega arith) (inl h)
 
-  pub used-swap : (at k : ℕ) (g : ℕ → Bool) → at + k ≤ e → used e m ks f (lay at k g xs) ≡ lay at k g (used e m ks f xs)
+  pub used-swap : (at k : ℕ) (g : ℕ → Bool) → at + k ≤ e → used Q e m ks f (lay at k g xs) ≡ lay at k g (used Q e m ks f xs)
   used-swap at k g h = go (eqb (length ks) 0)
     where
       go : (b : Bool) → pick b (lay at k g xs) (lay e m column (lay at k g xs)) ≡ lay at k g (pick b xs (lay e m column xs))
       go true = refl
       go false = lay-swap at k g e m column xs h l
 
-  pub used-over : (g : ℕ → Bool) → lay e m g (used e m ks f xs) ≡ lay e m g xs
+  pub used-over : (g : ℕ → Bool) → lay e m g (used Q e m ks f xs) ≡ lay e m g xs
   used-over g = go (eqb (length ks) 0)
     where
       go : (b : Bool) → lay e m g (pick b xs (lay e m column xs)) ≡ lay e m g xs
@@ -114,12 +114,12 @@ module _ (e m : ℕ) (ks : List ℕ) (f : ℕ → Bool) (xs : List ℕ) (l : e +
       go false = lay-lay e m column xs l g
 
 -- a part more
-pub used-more : (e m : ℕ) (ks : List ℕ) (i : ℕ) (f : ℕ → Bool) (xs : List ℕ) → i < length ks
-    → used e m (take (i + 1) ks) f xs ≡ lay e m (all (2 ^ getD ks i 0) f) xs
-used-more e m ks i f xs h =
+pub used-more : (Q : ℕ → (ℕ → Bool) → ℕ → Bool) (e m : ℕ) (ks : List ℕ) (i : ℕ) (f : ℕ → Bool) (xs : List ℕ) → i < length ks
+    → used Q e m (take (i + 1) ks) f xs ≡ lay e m (Q (2 ^ getD ks i 0) f) xs
+used-more Q e m ks i f xs h =
     let n : length (take (i + 1) ks) ≡ i + 1 = length-take-le (i + 1) ks (omega arith) in
     let z : eqb (i + 1) 0 ≡ false = ne-eqb (i + 1) 0 (λ q. omega arith) in
     let j : i + 1 - 1 ≡ i = omega arith in
-    ap (λ (w : ℕ). pick (eqb w 0) xs (lay e m (all (2 ^ getD (take (i + 1) ks) (w - 1) 0) f) xs)) n
-    ∙ ap (λ (b : Bool). pick b xs (lay e m (all (2 ^ getD (take (i + 1) ks) (i + 1 - 1) 0) f) xs)) z
-    ∙ ap (λ (w : ℕ). lay e m (all (2 ^ w) f) xs) (ap (λ (w : ℕ). getD (take (i + 1) ks) w 0) j ∙ getD-take (i + 1) ks i 0 (omega arith))
+    ap (λ (w : ℕ). pick (eqb w 0) xs (lay e m (Q (2 ^ getD (take (i + 1) ks) (w - 1) 0) f) xs)) n
+    ∙ ap (λ (b : Bool). pick b xs (lay e m (Q (2 ^ getD (take (i + 1) ks) (i + 1 - 1) 0) f) xs)) z
+    ∙ ap (λ (w : ℕ). lay e m (Q (2 ^ w) f) xs) (ap (λ (w : ℕ). getD (take (i + 1) ks) w 0) j ∙ getD-take (i + 1) ks i 0 (omega arith))

@@ -11,9 +11,10 @@ use Rattle.lists.specs.Bits.{bitAt, below}
 use Rattle.lists.specs.Choice.{pick}
 use Rattle.lists.proofs.Tests.{or-left, or-right}
 use Rattle.mltl.specs.Mltl.{eventually, opposite}
+use Rattle.mltl.specs.Known.{whole}
 use Rattle.interval.specs.Parts.{badInterval}
 use Rattle.column.specs.Column.{Turned, flipped}
-use Rattle.windows.specs.Windows.{span, someLater, allLater, misplaced, untilLater, Three}
+use Rattle.windows.specs.Windows.{span, someLater, allLater, wholeLater, misplaced, untilLater, Three}
 
 -- ---- by a test, a list as it was or another one
 pub stays : (xs ys : List ℕ) {b : Bool} → b ≡ true → xs ≡ pick b xs ys
@@ -44,7 +45,7 @@ module _ (d e n : ℕ) where
   words-enough h k = rw (le-ltb e d h, le-ltb n e k)
 
 module _ {d e : ℕ} {xs : List ℕ} where
-  pub three-is : misplaced d e (length xs) ≡ false → Three d e xs
+  three-is : misplaced d e (length xs) ≡ false → Three d e xs
   three-is q =
       let n : ℕ = length xs in
       let q₁ = or-left (ltb e d || ltb n e || ltb d (n - e)) (ltb (e - d) (n - e)) q in
@@ -83,6 +84,10 @@ module _ {lo hi : ℕ} (a : lo ≤ hi) (b : hi ≤ 4095) where
   pub some-turned : {xs ys : List ℕ} → ys ≡ pick (badInterval lo hi) xs (someLater lo hi xs) → Turned (eventually (span xs) lo hi (bitAt xs)) xs ys
   unfolding someLater
   some-turned {xs} q = record { is = turned xs (someLater lo hi xs) (interval-fits a b) q }
+
+  pub whole-turned : {xs ys : List ℕ} → ys ≡ pick (badInterval lo hi) xs (wholeLater lo hi xs) → Turned (whole lo hi (bitAt xs)) xs ys
+  unfolding wholeLater
+  whole-turned {xs} q = record { is = turned xs (wholeLater lo hi xs) (interval-fits a b) q }
 
   pub all-turned : (n : ℕ) {xs ys : List ℕ} → ys ≡ pick (badInterval lo hi) xs (allLater lo hi n xs)
       → Turned (below n (opposite (eventually (span xs) lo hi (flipped n xs)))) xs ys

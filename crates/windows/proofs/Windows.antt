@@ -1,10 +1,10 @@
--- F on words: windows of 2 ^ k bits by doubling, widened part by part, and begun later. Assumes nothing.
+-- F, G and `whole` on words: windows of 2 ^ k bits by doubling, widened part by part, and begun later. Assumes nothing.
 use mathlib.Core.Path.{_≡_, refl, sym, ap, ap₂, _∙_, fun-ext}
 use mathlib.Core.Logic.{⊎-elim}
-use mathlib.Core.Bool.{Bool, true, false, _||_, not, _&&_, false≢true}
+use mathlib.Core.Bool.{Bool, true, false, not, _&&_}
 use mathlib.Core.List.{List, [], _∷_, _++_, map-append}
 use Prim.Native.Nat.{ℕ, zero, suc, _+_, _-_, _*_, _%_, _^_, _≤_, _<_}
-use native.Mathlib.Nat.{two-pow-succ, le-of-suc-le-suc}
+use native.Mathlib.Nat.{le-of-suc-le-suc}
 use native.Mathlib.Numerals.{add-one}
 use native.Mathlib.Omega.{arith}
 use borrow.Author.Tests.{le-ltb}
@@ -17,51 +17,71 @@ use Rattle.lists.specs.Sequence.{sum, padded}
 use Rattle.lists.proofs.Tests.{lt-or-le}
 use Rattle.lists.proofs.Columns.{bitAt-past, bitAt-pack, length-pack, pack-is, pack-ext}
 use Rattle.mltl.specs.Mltl.{eventually, until, opposite}
+use Rattle.mltl.specs.Known.{whole}
 use Rattle.mltl.proofs.Readings.{until-by}
-use Rattle.mltl.proofs.Operators.{ever, eventually-at, until-now, until-past, eventually-double, eventually-eventually}
+use Rattle.mltl.proofs.Operators.{ever, eventually-at}
 use Rattle.interval.specs.Parts.{parts, splitting}
 use Rattle.interval.specs.declared.Splitting.{Splitting}
 use Rattle.interval.proofs.Laws.{total, parts-total, parts-12}
 use Rattle.column.specs.Column.{Turned, flipped}
-use Rattle.moves.specs.Moves.{joined, moved}
+use Rattle.moves.specs.Moves.{moved}
 use Rattle.column.proofs.Words.{mask}
 use Rattle.column.proofs.Registers.{bitAt-pack-all}
-use Rattle.windows.specs.Windows.{span, someLater, allLater}
+use Rattle.windows.specs.Windows.{span, someLater, allLater, wholeLater}
 use Rattle.windows.specs.Code.Steps.{widthOf}
+use Rattle.windows.proofs.Laws.{Unary, twice, eventually-past, eventually-laws, whole-laws}
 
 -- ---- what was turned
 module _ {f : ℕ → Bool} {xs ys : List ℕ} (r : Turned f xs ys) where
   pub turned-length : length ys ≡ length xs
   turned-length = ap length (r .is) ∙ length-pack (length xs) f
 
-  pub turned-bit : ((t : ℕ) → span xs ≤ t → f t ≡ false) → (t : ℕ) → bitAt ys t ≡ f t
+  turned-bit : ((t : ℕ) → span xs ≤ t → f t ≡ false) → (t : ℕ) → bitAt ys t ≡ f t
   turned-bit z t = ap (λ (l : List ℕ). bitAt l t) (r .is) ∙ bitAt-pack-all (length xs) f z t
 
-pub turned-then : {g : ℕ → Bool} (h : ℕ → Bool) {xs ys zs : List ℕ} → length ys ≡ length xs → Turned g ys zs
+turned-then : {g : ℕ → Bool} (h : ℕ → Bool) {xs ys zs : List ℕ} → length ys ≡ length xs → Turned g ys zs
     → ((t : ℕ) → t < span xs → g t ≡ h t) → Turned h xs zs
 turned-then {g = g} h {xs} l q e = record { is = q .is ∙ ap (λ (m : ℕ). pack m g) l ∙ pack-ext (length xs) g h e }
 
-pub eventually-past : (n lo hi : ℕ) (a : ℕ → Bool) (t : ℕ) → n ≤ t + lo → eventually n lo hi a t ≡ false
-eventually-past n lo hi a t h = eventually-at n lo hi a t ∙ until-past n lo hi (ever true) a t h
+-- ---- an operator of one operand on the whole list
+module _ {W : ℕ → ℕ → ℕ → (ℕ → Bool) → ℕ → Bool} {join : Bool → Bool → Bool} (laws : Unary W join) {xs : List ℕ} where
+  pub window-start : ((w : ℕ) → getD xs w 0 < 2 ^ 64) → Turned (W (span xs) 0 (2 ^ 0 - 1) (bitAt xs)) xs xs
+  window-start h = record { is = pack-is xs (length xs) _ refl h (λ t l. sym (laws .now (span xs) (bitAt xs) t l)) }
 
-pub eventually-now : (n : ℕ) (a : ℕ → Bool) (t : ℕ) → t < n → eventually n 0 0 a t ≡ a t
-eventually-now n a t h = eventually-at n 0 0 a t ∙ until-now n (ever true) a t h
-
-twice : (j : ℕ) → 2 * 2 ^ j - 1 ≡ 2 ^ (j + 1) - 1
-twice j = ap (λ (n : ℕ). n - 1) (omega (arith, two-pow-succ j) ∙ ap (λ (n : ℕ). 2 ^ n) (sym (add-one j)))
-
-module _ {xs : List ℕ} where
-  pub some-start : ((w : ℕ) → getD xs w 0 < 2 ^ 64) → Turned (eventually (span xs) 0 (2 ^ 0 - 1) (bitAt xs)) xs xs
-  some-start h = record { is = pack-is xs (length xs) _ refl h (λ t l. sym (eventually-now (span xs) (bitAt xs) t l)) }
-
-  pub some-twice : (j : ℕ) {ys zs : List ℕ} → j < 64 → Turned (eventually (span xs) 0 (2 ^ j - 1) (bitAt xs)) xs ys
-      → Turned (joined (1 * 2 ^ j % 2 ^ 64) ys) ys zs → Turned (eventually (span xs) 0 (2 ^ (j + 1) - 1) (bitAt xs)) xs zs
-  some-twice j {ys} h p q =
-      let E : ℕ → Bool = eventually (span xs) 0 (2 ^ j - 1) (bitAt xs) in
-      let own : (t : ℕ) → bitAt ys t ≡ E t = turned-bit p (λ t l. eventually-past (span xs) 0 (2 ^ j - 1) (bitAt xs) t (omega arith)) in
+  pub window-twice : (j : ℕ) {ys zs : List ℕ} → j < 64 → Turned (W (span xs) 0 (2 ^ j - 1) (bitAt xs)) xs ys
+      → Turned (λ t. join (bitAt ys t) (bitAt ys (t + 1 * 2 ^ j % 2 ^ 64))) ys zs → Turned (W (span xs) 0 (2 ^ (j + 1) - 1) (bitAt xs)) xs zs
+  window-twice j {ys} h p q =
+      let own : (t : ℕ) → bitAt ys t ≡ W (span xs) 0 (2 ^ j - 1) (bitAt xs) t = turned-bit p (laws .ends (span xs) (2 ^ j - 1) (bitAt xs) (bitAt-past xs)) in
       turned-then _ (turned-length p) q λ t l.
-      ap (λ (b : ℕ). bitAt ys t || bitAt ys (t + b)) (mask j h) ∙ ap₂ _||_ (own t) (own (t + 2 ^ j))
-      ∙ sym (eventually-double (span xs) (2 ^ j) (bitAt xs) t (pow-pos j)) ∙ ap (λ (v : ℕ). eventually (span xs) 0 v (bitAt xs) t) (twice j)
+      ap (λ (b : ℕ). join (bitAt ys t) (bitAt ys (t + b))) (mask j h) ∙ ap₂ join (own t) (own (t + 2 ^ j))
+      ∙ laws .double (span xs) (2 ^ j) (bitAt xs) t (pow-pos j) ∙ ap (λ (w : ℕ). W (span xs) 0 (w - 1) (bitAt xs) t) (twice j)
+
+  -- one part more
+  pub window-more : (u v : ℕ) {ys zs : List ℕ} → Turned (W (span xs) 0 v (bitAt xs)) xs ys → Turned (W (span ys) 0 u (bitAt ys)) ys zs
+      → Turned (W (span xs) 0 (u + v) (bitAt xs)) xs zs
+  window-more u v {ys} p q =
+      let own : bitAt ys ≡ W (span xs) 0 v (bitAt xs) = fun-ext (turned-bit p (laws .ends (span xs) v (bitAt xs) (bitAt-past xs))) in
+      turned-then _ (turned-length p) q λ t l.
+      ap₂ (λ (n : ℕ) (f : ℕ → Bool). W (64 * n) 0 u f t) (turned-length p) own ∙ ap (λ (f : ℕ → Bool). f t) (laws .split (span xs) u v (bitAt xs))
+
+  -- a window that begins later
+  window-later : (lo hi u : ℕ) {ys zs : List ℕ} → lo ≤ hi → u ≡ hi - lo → Turned (moved lo xs) xs ys → Turned (W (span ys) 0 u (bitAt ys)) ys zs
+      → Turned (W (span xs) lo hi (bitAt xs)) xs zs
+  window-later lo hi u {ys} h e p q =
+      let own : bitAt ys ≡ moved lo xs = fun-ext (turned-bit p (λ t l. bitAt-past xs (t + lo) (omega arith))) in
+      turned-then (W (span xs) lo hi (bitAt xs)) (turned-length p) q λ t l.
+      ap₂ (λ (n : ℕ) (f : ℕ → Bool). W (64 * n) 0 u f t) (turned-length p) own ∙ laws .moved (span xs) lo u (bitAt xs) (bitAt-past xs) t
+      ∙ ap (λ (v : ℕ). W (span xs) lo v (bitAt xs) t) (omega arith)
+
+pub some-is : (lo hi u : ℕ) {xs ys zs : List ℕ} → lo ≤ hi → u ≡ hi - lo → Turned (moved lo xs) xs ys → Turned (eventually (span ys) 0 u (bitAt ys)) ys zs
+    → zs ≡ someLater lo hi xs
+unfolding someLater
+some-is lo hi u {xs} h e p q = window-later eventually-laws {xs = xs} lo hi u h e p q .is
+
+pub whole-is : (lo hi u : ℕ) {xs ys zs : List ℕ} → lo ≤ hi → u ≡ hi - lo → Turned (moved lo xs) xs ys → Turned (whole 0 u (bitAt ys)) ys zs
+    → zs ≡ wholeLater lo hi xs
+unfolding wholeLater
+whole-is lo hi u {xs} h e p q = window-later whole-laws {xs = xs} lo hi u h e p q .is
 
 -- ---- sums of parts
 sum-append : (a b : List ℕ) → sum (a ++ b) ≡ sum a + sum b
@@ -107,54 +127,6 @@ module _ (lo hi : ℕ) (a : lo ≤ hi) (b : hi ≤ 4095) {r : Splitting} (e : r 
   pub cut-width : widthOf (r .count) (r .parts) ≡ hi - lo
   cut-width = ap total cut-parts ∙ parts-total (hi - lo)
 
--- ---- one part more
-module _ {xs : List ℕ} where
-  pub widen-more : (u v : ℕ) {ys zs : List ℕ} → Turned (eventually (span xs) 0 v (bitAt xs)) xs ys → Turned (eventually (span ys) 0 u (bitAt ys)) ys zs
-      → Turned (eventually (span xs) 0 (u + v) (bitAt xs)) xs zs
-  widen-more u v {ys} p q =
-      let own : bitAt ys ≡ eventually (span xs) 0 v (bitAt xs) = fun-ext (turned-bit p (λ t l. eventually-past (span xs) 0 v (bitAt xs) t (omega arith))) in
-      turned-then _ (turned-length p) q λ t l.
-      ap₂ (λ (n : ℕ) (f : ℕ → Bool). eventually (64 * n) 0 u f t) (turned-length p) own
-      ∙ ap (λ (f : ℕ → Bool). f t) (eventually-eventually (span xs) 0 u 0 v (bitAt xs) (omega arith) (omega arith))
-
--- ---- a window that begins later
-module _ (N lo v : ℕ) (a b : ℕ → Bool) (ends : (i : ℕ) → N ≤ i → b i ≡ false) where
-  pub until-moved : (t : ℕ) → until N 0 v (λ i. a (i + lo)) (λ i. b (i + lo)) t ≡ until N lo (lo + v) a b t
-  until-moved t =
-      until-by
-      (λ r. record {
-        at = r .at + lo;
-        late = omega arith;
-        early = omega arith;
-        inside = ⊎-elim (λ (l : r .at + lo < N). l) (λ (l : N ≤ r .at + lo). absurd (false≢true (sym (ends (r .at + lo) l) ∙ r .right))) (lt-or-le (r .at + lo) N);
-        right = r .right;
-        left = λ j x y. ap a (let e : j ≡ j - lo + lo = omega arith in e) ∙ r .left (j - lo) (omega arith) (omega arith);
-      })
-      (λ r. record {
-        at = r .at - lo;
-        late = omega arith;
-        early = omega arith;
-        inside = omega arith;
-        right = ap b (let e : r .at - lo + lo ≡ r .at = omega arith in e) ∙ r .right;
-        left = λ j x y. r .left (j + lo) (omega arith) (omega arith);
-      })
-
-pub eventually-moved : (N lo v : ℕ) (b : ℕ → Bool) → ((i : ℕ) → N ≤ i → b i ≡ false) → (t : ℕ)
-    → eventually N 0 v (λ i. b (i + lo)) t ≡ eventually N lo (lo + v) b t
-eventually-moved N lo v b ends t =
-    eventually-at N 0 v (λ i. b (i + lo)) t ∙ until-moved N lo v (ever true) b ends t ∙ sym (eventually-at N lo (lo + v) b t)
-
-pub some-is : (lo hi u : ℕ) {xs ys zs : List ℕ} → lo ≤ hi → u ≡ hi - lo → Turned (moved lo xs) xs ys → Turned (eventually (span ys) 0 u (bitAt ys)) ys zs
-    → zs ≡ someLater lo hi xs
-unfolding someLater
-some-is lo hi u {xs} {ys} h e p q =
-    let own : bitAt ys ≡ moved lo xs = fun-ext (turned-bit p (λ t l. bitAt-past xs (t + lo) (omega arith))) in
-    turned-then (eventually (span xs) lo hi (bitAt xs)) {xs = xs} (turned-length p) q (λ t l.
-    ap₂ (λ (n : ℕ) (f : ℕ → Bool). eventually (64 * n) 0 u f t) (turned-length p) own
-    ∙ eventually-moved (span xs) lo u (bitAt xs) (λ i k. bitAt-past xs i k) t
-    ∙ ap (λ (v : ℕ). eventually (span xs) lo v (bitAt xs) t) (omega arith))
-    .is
-
 -- ---- the operators go by their operands below n alone, where the right one is clear past n
 module _ (n N lo hi : ℕ) (a b A B : ℕ → Bool) (h : n ≤ N) (inside : (i : ℕ) → i < N → b i ≡ true → i < n) (e : (i : ℕ) → i < n → a i ≡ A i)
     (f : (i : ℕ) → i < n → b i ≡ B i) where
@@ -177,7 +149,7 @@ pub until-ext : (n lo hi : ℕ) (a b a′ b′ : ℕ → Bool) → ((i : ℕ) �
     → (t : ℕ) → until n lo hi a b t ≡ until n lo hi a′ b′ t
 until-ext n lo hi a b a′ b′ e f = until-same n n lo hi a b a′ b′ (omega arith) (λ i h k. h) e f
 
-pub eventually-ext : (n lo hi : ℕ) (b b′ : ℕ → Bool) → ((i : ℕ) → i < n → b i ≡ b′ i) → (t : ℕ) → eventually n lo hi b t ≡ eventually n lo hi b′ t
+eventually-ext : (n lo hi : ℕ) (b b′ : ℕ → Bool) → ((i : ℕ) → i < n → b i ≡ b′ i) → (t : ℕ) → eventually n lo hi b t ≡ eventually n lo hi b′ t
 eventually-ext n lo hi b b′ f t =
     eventually-at n lo hi b t ∙ until-ext n lo hi (ever true) b (ever true) b′ (λ i h. refl) f t ∙ sym (eventually-at n lo hi b′ t)
 

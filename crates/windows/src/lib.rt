@@ -4,13 +4,14 @@ ghost use mathlib.Core.Bool.{_||_};
 ghost use Prim.Native.Nat.{ℕ, _+_, _-_, _^_, _≤_, _<_};
 ghost use lib.ListN.{length, getD};
 ghost use Rattle.limits.specs.Limits.{maxParts};
-ghost use Rattle.lists.specs.Bits.{bitAt};
 ghost use Rattle.lists.specs.Choice.{pick};
+ghost use Rattle.mltl.specs.Mltl.{until};
+ghost use Rattle.mltl.specs.Known.{wholeRelease};
 ghost use Rattle.interval.specs.Parts.{badInterval};
 ghost use Rattle.column.specs.Column.{register, flipped};
 ghost use Rattle.moves.specs.Moves.{moved};
-ghost use Rattle.windows.specs.Windows.{someLater, allLater, third, misplaced, untilOf, all, untilLater, releaseLater, Three};
-ghost use Rattle.windows.specs.Code.Steps.{widthOf, Eventually, Two, untilParts};
+ghost use Rattle.windows.specs.Windows.{someLater, allLater, wholeLater, third, misplaced, all, any, untilLater, releaseLater, wholeReleaseLater, Three};
+ghost use Rattle.windows.specs.Code.Steps.{widthOf, Eventually, Whole, Two, Within, byParts};
 use limits::MAX_PARTS;
 
 // ---- F and G: one register, the whole slice
@@ -62,13 +63,50 @@ pub fn all_later(s: &mut [u64], lo: u16, hi: u16, n: usize)
     column::complement(s, n);
 }
 
+// ---- every bit of an interval, those past the words included, which are clear: F's no and G's yes while a trace grows
+
+// Bit t becomes whether all of the 2 ^ k bits from t on are set.
+fn whole_within(s: &mut [u64], k: usize)
+    requires { ⌜ k < 64 ⌝ }
+    ensures { λ _. ⌜ Whole 0 (2 ^ k - 1) (now (s .entry)) (now (s .exit)) ⌝ }
+{
+    for j in 0..k {
+        moves::meet_moved(s, 1 << j);
+    }
+}
+
+// The windows are widened by 2 ^ k - 1 bits for each of the first `count` parts k.
+fn whole_parts(s: &mut [u64], ks: [u8; MAX_PARTS], count: usize)
+    requires { ⌜ (count ≤ maxParts) × ((i : ℕ) → i < count → getD ks i 0 < 64) ⌝ }
+    ensures { λ _. ⌜ Whole 0 (widthOf count ks) (now (s .entry)) (now (s .exit)) ⌝ }
+{
+    for i in 0..count {
+        let k = ks[i] as usize;
+        whole_within(s, k);
+    }
+}
+
+// Bit t becomes whether all of the bits from t + lo to t + hi are set. Nothing changes where the interval is refused.
+pub fn whole_later(s: &mut [u64], lo: u16, hi: u16)
+    ensures { λ _. ⌜ now (s .exit) ≡ pick (badInterval lo hi) (now (s .entry)) (wholeLater lo hi (now (s .entry))) ⌝ }
+{
+    if interval::bad_interval(lo, hi) {
+        return;
+    }
+    let cut = interval::split(lo, hi);
+    let ks = cut.parts;
+    let count = cut.count;
+    moves::move_down(s, lo as usize);
+    whole_parts(s, ks, count);
+}
+
 // ---- U and R: the right operand in the first register of a slice, the left one in the second, d words in
 
 // Bit t of the first register becomes whether it is set at one of the 2 ^ k bits from t on, with that of the second set at each before. The second is
 // used up.
 fn until_within(s: &mut [u64], d: usize, k: usize)
     requires { ⌜ (d ≤ length (now s)) × (length (now s) ≤ d + d) × (k < 64) ⌝ }
-    ensures { λ _. ⌜ Two d (third d (now (s .entry))) (untilOf 0 (2 ^ k - 1) (third d (now (s .entry))) (register d (third d (now (s .entry))) (now (s .entry))) (register 0 (third d (now (s .entry))) (now (s .entry)))) (all (2 ^ k) (bitAt (register d (third d (now (s .entry))) (now (s .entry))))) (now (s .entry)) (now (s .exit)) ⌝ }
+    ensures { λ _. ⌜ Within until all d k (now (s .entry)) (now (s .exit)) ⌝ }
 {
     for j in 0..k {
         moves::reach(s, d, 1 << j);
@@ -95,7 +133,7 @@ fn misplaced(len: usize, d: usize, e: usize) -> bool
 fn until_parts(s: &mut [u64], d: usize, e: usize, ks: [u8; MAX_PARTS], count: usize)
     requires { ⌜ Three d e (now s) ⌝ }
     requires { ⌜ (count ≤ maxParts) × ((i : ℕ) → i < count → getD ks i 0 < 64) ⌝ }
-    ensures { λ _. ⌜ now (s .exit) ≡ untilParts d e count ks (now (s .entry)) ⌝ }
+    ensures { λ _. ⌜ now (s .exit) ≡ byParts until all d e count ks (now (s .entry)) ⌝ }
 {
     for i in 0..count {
         let k = ks[i] as usize;
@@ -152,4 +190,46 @@ pub fn release_later(s: &mut [u64], d: usize, e: usize, lo: u16, hi: u16, n: usi
     two_flipped(s, d, e, n);
     until_later(s, d, e, lo, hi);
     column::complement(&mut s[0..m], n);
+}
+
+// ---- the same registers for U's no and R's yes while a trace grows: every bit of the interval counts, those past the words too, which are clear
+
+// Bit t of the first register becomes whether each of its 2 ^ k bits from t on is set or has a set bit of the second before it, from t on. The second is
+// used up.
+fn whole_release_within(s: &mut [u64], d: usize, k: usize)
+    requires { ⌜ (d ≤ length (now s)) × (length (now s) ≤ d + d) × (k < 64) ⌝ }
+    ensures { λ _. ⌜ Within (λ n. wholeRelease) any d k (now (s .entry)) (now (s .exit)) ⌝ }
+{
+    for j in 0..k {
+        moves::sustain(s, d, 1 << j);
+        moves::join_moved(&mut s[d..], 1 << j);
+    }
+}
+
+// The first register's windows are widened by 2 ^ k - 1 bits for each of the first `count` parts k.
+fn whole_release_parts(s: &mut [u64], d: usize, e: usize, ks: [u8; MAX_PARTS], count: usize)
+    requires { ⌜ Three d e (now s) ⌝ }
+    requires { ⌜ (count ≤ maxParts) × ((i : ℕ) → i < count → getD ks i 0 < 64) ⌝ }
+    ensures { λ _. ⌜ now (s .exit) ≡ byParts (λ n. wholeRelease) any d e count ks (now (s .entry)) ⌝ }
+{
+    for i in 0..count {
+        let k = ks[i] as usize;
+        pair::copy_into(&mut s[d..], e - d);
+        whole_release_within(s, e, k);
+    }
+}
+
+// Bit t of the first register becomes whether each of its bits from t + lo to t + hi is set or has a set bit of the second before it, from t + lo on.
+// Nothing changes where the interval is refused or the registers are misplaced.
+pub fn whole_release_later(s: &mut [u64], d: usize, e: usize, lo: u16, hi: u16)
+    ensures { λ _. ⌜ now (s .exit) ≡ pick (badInterval lo hi || misplaced d e (length (now (s .entry)))) (now (s .entry)) (wholeReleaseLater d e lo hi (now (s .entry))) ⌝ }
+{
+    if interval::bad_interval(lo, hi) | misplaced(s.len(), d, e) {
+        return;
+    }
+    let cut = interval::split(lo, hi);
+    let ks = cut.parts;
+    let count = cut.count;
+    two_down(s, d, e, lo as usize);
+    whole_release_parts(s, d, e, ks, count);
 }

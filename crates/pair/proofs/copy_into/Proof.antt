@@ -2,12 +2,12 @@
 use Prim.Native.Nat.{_-_}
 use borrow.Author.Needs.{needs}
 use Rattle.lists.specs.Bits.{bitAt}
-use Rattle.pair.proofs.Pairs.{Into, into-none, into-next, into-done}
+use Rattle.pair.proofs.Pairs.{Into, second, into-none, into-next, into-done}
 use Rattle.pair.proofs.copy_into.Statement.{statement}
 use Rattle.pair.proofs.copy_into.Tie as tie
 
 abbrev Inv-loop : tie.InvT-loop
-Inv-loop s₀ d words w₀ s w = Into (λ b a. bitAt a) d words w s₀ s
+Inv-loop s₀ d words w₀ s w = Into (λ b a. bitAt a) d d 0 words w s₀ s
 
 abbrev μ-loop : tie.MeasureT-loop
 μ-loop s₀ d words w₀ s w = words - w
@@ -17,8 +17,8 @@ copy-into-spec =
     tie.close
     (tie.spec Inv-loop μ-loop
     (search needs)
-    (λ c. into-none (c .room-of .ensures))
+    (λ c. into-none second (c .room-of .ensures))
     (search needs) (search needs) (search needs) (search needs) (search needs) (search needs) (search needs)
-    (λ c. into-next (c .before .before .loop .inv) (search needs) (λ i. c .slice-known2 .given i .fits) (λ b a. a))
+    (λ c. into-next (c .before .before .loop .inv) (search needs) (search needs) (search needs) (λ i. c .slice-known2 .given i .fits) (λ b a. a))
     (λ c. c .before .loop .inv .swept .long)
     (λ c. into-done (c .before .loop .inv) (c .loop-test .left)))

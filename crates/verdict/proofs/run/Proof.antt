@@ -1,14 +1,17 @@
 -- `verdict::run` meets its contract. The invariant: the columns of the first i nodes that are marked are there. Assumes nothing.
-use Prim.Native.Nat.{_+_, _-_, _<_, _≤_}
+use Prim.Native.Nat.{ℕ, _+_, _-_, _<_, _≤_}
 use native.Mathlib.Nat.{le-antisymm}
 use native.Mathlib.Omega.{arith}
 use mathlib.Core.List.{_++_}
-use mathlib.Core.Path.{refl, sym, _∙_, _≡_}
+use mathlib.Core.Path.{refl, sym, subst, _∙_, _≡_}
 use borrow.Author.Needs.{needs}
 use lib.ListN.{getD, length, length-append}
 use Rattle.lists.proofs.Sequences.{length-mapped}
 use Rattle.table.specs.Nodes.{noNode}
 use Rattle.table.specs.Sound.{short}
+use Rattle.limits.specs.Limits.{scratchWords}
+use Rattle.layout.specs.Layout.{Computable}
+use Rattle.layout.proofs.Runs.{computable}
 use Rattle.verdict.proofs.Runs.{maybe-by, run-more, run-start}
 use Rattle.verdict.specs.Code.Steps.{Columns}
 use Rattle.verdict.specs.Verdict.{enough}
@@ -34,16 +37,9 @@ step-if-requires c κs =
     let l = t .before .loop in
     let b = start (t .before) in
     let h = b .pre in
-    let i = l .inv in
-    let less : l .i < b .args .upto = t .loop-test .taken in
-    let p = h .places in
-    let q = h .enough in
-    record {
-      place = omega arith;
-      short = omega (arith, h .short, length-append (b .args .older .now) (b .args .newer .now));
-      enough = omega arith;
-      fitting = h .fitting (l .i) less;
-    }
+    let a = b .args in
+    subst (λ (n : ℕ). Computable scratchWords (l .i) n (getD (a .t1 .nodes) (l .i) noNode) (l .s)) (length-append (a .older .now) (a .newer .now))
+    (computable h (l .i) (t .loop-test .taken) (l .inv .1))
 
 loop-again : tie.Need-loop-again Inv-loop μ-loop
 loop-again c =

@@ -1,41 +1,23 @@
--- The registers of the nodes in the scratch, and what the functions that write them leave there.
+-- What the functions that write the nodes' registers leave in the scratch.
 use mathlib.Core.Path.{_≡_}
 use mathlib.Core.Bool.{Bool, true, false, _||_, _&&_}
 use mathlib.Core.List.{List}
 use Prim.Native.Nat.{ℕ, _+_, _-_, _*_, _≤_, _<_}
-use lib.ListN.{length, getD, take, drop}
+use lib.ListN.{length, getD, drop}
 use Rattle.limits.specs.Limits.{maxNodes, maxTrace, registerWords, scratchWords}
-use Rattle.lists.specs.Bits.{bit, words, bitAt, pack, packed, below}
+use Rattle.lists.specs.Bits.{words, bitAt, packed, below}
 use Rattle.mltl.specs.Mltl.{holds, eventually, opposite}
 use Rattle.column.specs.Column.{register, filled, flipped}
 use Rattle.pair.specs.Pair.{both}
 use Rattle.signal.specs.Signal.{signalColumn}
-use Rattle.table.specs.Nodes.{Op, Unknown, Signal, Top, Bottom, Not, And, Or, Finally, Globally, Until, Release, opOf, usesOf, noNode, formulaAt}
+use Rattle.table.specs.Nodes.{Op, Unknown, Signal, Top, Bottom, Not, And, Or, Finally, Globally, Until, Release, opOf, noNode, formulaAt}
 use Rattle.table.specs.Sound.{fits}
 use Rattle.table.specs.declared.Node.{Node}
 use Rattle.windows.specs.Windows.{untilOf, releaseOf}
-
--- ---- where they lie
--- node i's begins at registerWords * i; after those of 64 nodes, for U and R: the register of the left operand, and one to work in
-abbrev pub leftPlace : ℕ
-leftPlace = maxNodes * registerWords
-
-abbrev pub workPlace : ℕ
-workPlace = leftPlace + registerWords
-
--- a node's register at b, of which m words are used, in a scratch with room for all
-pub record Place (b m : ℕ) (xs : List ℕ) : Type 0 where
-  pub node : b + registerWords ≤ leftPlace
-  pub small : m ≤ registerWords
-  pub enough : scratchWords ≤ length xs
+use Rattle.needed.specs.Marks.{marked}
+use Rattle.layout.specs.Layout.{Step}
 
 -- ---- what stands in them
--- ys holds the column f in its register at b; below b, and from the end of the registers on, it is xs
-pub record Step (b m : ℕ) (f : ℕ → Bool) (xs ys : List ℕ) : Type 0 where
-  pub here : register b m ys ≡ pack m f
-  pub low : take b ys ≡ take b xs
-  pub high : drop scratchWords ys ≡ drop scratchWords xs
-
 -- a step where `on`, and nothing where not
 pub record Maybe (on : Bool) (b m : ℕ) (f : ℕ → Bool) (xs ys : List ℕ) : Type 0 where
   pub step : on ≡ true → Step b m f xs ys
@@ -59,40 +41,10 @@ nodeColumn Release x n states c d = releaseOf n (x .lo) (x .hi) (words n) c d
 unfoldable pub columnIn : Node → ℕ → List ℕ → List ℕ → ℕ → Bool
 columnIn x n states xs = nodeColumn (opOf (x .kind)) x n states (register (registerWords * x .left) (words n) xs) (register (registerWords * x .right) (words n) xs)
 
--- a node that can be computed at place i
-pub record Computable (i n : ℕ) (x : Node) (xs : List ℕ) : Type 0 where
-  pub place : i < maxNodes
-  pub short : n ≤ maxTrace
-  pub enough : scratchWords ≤ length xs
-  pub fitting : fits i x ≡ true
-
--- ---- marks of the nodes that are needed
-abbrev pub marked : ℕ → ℕ → Bool
-marked marks i = bit marks i
-
--- of the marked node j an operand that it uses is marked
-abbrev pub MarksOperand : ℕ → ℕ → Bool → ℕ → Type 0
-MarksOperand marks j used operand = marked marks j ≡ true → used ≡ true → operand < j → marked marks operand ≡ true
-
--- node k is marked, and of each marked node up to k the operands
-pub record Needs (nodes : List Node) (k marks : ℕ) : Type 0 where
-  pub top : marked marks k ≡ true
-  pub left : (j : ℕ) → j ≤ k → MarksOperand marks j (usesOf (opOf (getD nodes j noNode .kind)) .left) (getD nodes j noNode .left)
-  pub right : (j : ℕ) → j ≤ k → MarksOperand marks j (usesOf (opOf (getD nodes j noNode .kind)) .right) (getD nodes j noNode .right)
-
 -- the register of each marked one of the first k nodes holds its formula's verdicts, and from the end of the registers on ys is xs
 pub record Columns (k : ℕ) (nodes : List Node) (marks : ℕ) (trace xs ys : List ℕ) : Type 0 where
   pub at : (j : ℕ) → j < k → marked marks j ≡ true → register (registerWords * j) (words (length trace)) ys ≡ packed (length trace) (holds (formulaAt nodes j) trace)
   pub high : drop scratchWords ys ≡ drop scratchWords xs
-
--- the first k nodes can be computed
-pub record Runnable (k : ℕ) (nodes : List Node) (marks : ℕ) (trace xs : List ℕ) : Type 0 where
-  pub some : 0 < k
-  pub places : k ≤ maxNodes
-  pub fitting : (i : ℕ) → i < k → fits i (getD nodes i noNode) ≡ true
-  pub short : length trace ≤ maxTrace
-  pub enough : scratchWords ≤ length xs
-  pub needs : Needs nodes (k - 1) marks
 
 -- the verdicts of node k at the first `count` ticks can be given
 pub record Judgeable (ns : List Node) (k : ℕ) (trace : List ℕ) (count : ℕ) (scratch out : List ℕ) : Type 0 where

@@ -2,7 +2,8 @@
 use Prim.Native.Nat.{_-_, _^_, _≤_}
 use native.Mathlib.Nat.{le-antisymm}
 use borrow.Author.Needs.{needs}
-use Rattle.windows.proofs.Windows.{some-start, some-twice, turned-length}
+use Rattle.windows.proofs.Laws.{eventually-laws}
+use Rattle.windows.proofs.Windows.{turned-length, window-start, window-twice}
 use Rattle.windows.specs.Code.Steps.{Eventually}
 use Rattle.windows.proofs.some_within.Statement.{statement}
 use Rattle.windows.proofs.some_within.Tie as tie
@@ -17,10 +18,10 @@ pub some-within-spec : {M : Type 1} → statement M
 some-within-spec =
     tie.close
     (tie.spec Inv-loop μ-loop
-    (λ c. (some-start (λ j. c .slice-known .given j .fits), search needs))
+    (λ c. (window-start eventually-laws (λ j. c .slice-known .given j .fits), search needs))
     (search needs) (search needs) (search needs) (search needs)
     (λ c.
     let d = c .before .before .before .before .before in
-    (some-twice (d .loop .j) (search needs) (d .loop .inv .0) (c .before .before .join-moved .ensures), search needs))
+    (window-twice eventually-laws (d .loop .j) (search needs) (d .loop .inv .0) (c .before .before .join-moved .ensures), search needs))
     (λ c. turned-length (c .before .loop .inv .0))
     (λ c. rw (← le-antisymm (c .before .loop .inv .1) (c .loop-test .left)) (c .before .loop .inv .0)))

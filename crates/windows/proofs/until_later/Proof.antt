@@ -6,7 +6,8 @@ use borrow.Author.Needs.{needs}
 use lib.ListN.{length}
 use Rattle.interval.specs.Parts.{badInterval}
 use Rattle.windows.proofs.Results.{fit-is, stays, three-kept, turns}
-use Rattle.windows.proofs.Threes.{until-later-is}
+use Rattle.windows.proofs.Laws.{until-laws}
+use Rattle.windows.proofs.Threes.{later-is}
 use Rattle.windows.proofs.Windows.{cut-12, cut-parts, cut-small, cut-width}
 use Rattle.windows.specs.Windows.{misplaced, untilLater, Three}
 use Rattle.windows.proofs.until_later.Statement.{statement}
@@ -39,6 +40,7 @@ until-parts-requires c κs =
     (three-kept (m .two-down .kept .0) (f .1), (cut-12 (a .lo) (a .hi) (p .0) (p .1) (b .split .ensures), cut-small (a .lo) (a .hi) (p .0) (p .1) (b .split .ensures)))
 
 returns-2 : tie.Need-returns-2
+unfolding untilLater
 returns-2 c =
     let u = c .before .before in
     let m = u .before .before .before .before in
@@ -48,7 +50,7 @@ returns-2 c =
     let f = fit o in
     let p = f .0 in
     turns (a .s .now) (untilLater (a .d) (a .e) (a .lo) (a .hi) (a .s .now)) (sym (tests (o .before)) ∙ o .if1 .left)
-    (until-later-is (a .d) (a .e) (a .lo) (a .hi) (b .split .result .count) (b .split .result .parts) (f .1) (p .0)
+    (later-is until-laws (a .d) (a .e) (a .lo) (a .hi) (b .split .result .count) (b .split .result .parts) (f .1) (p .0)
     (cut-width (a .lo) (a .hi) (p .0) (p .1) (b .split .ensures)) (cut-parts (a .lo) (a .hi) (p .0) (p .1) (b .split .ensures))
     (m .two-down .ensures) (u .until-parts .ensures))
 

@@ -5,13 +5,16 @@ use native.Mathlib.Omega.{arith}
 use mathlib.Core.Path.{refl, _∙_, _≡_}
 use borrow.Author.Needs.{needs}
 use lib.ListN.{getD, length, take}
+use Rattle.mltl.specs.Mltl.{until}
+use Rattle.windows.proofs.Laws.{until-laws}
 use Rattle.windows.proofs.Threes.{parts-more, parts-none, turn-is, turn-length}
-use Rattle.windows.specs.Code.Steps.{untilParts, widthOf}
+use Rattle.windows.specs.Windows.{all}
+use Rattle.windows.specs.Code.Steps.{byParts, widthOf}
 use Rattle.windows.proofs.until_parts.Statement.{statement}
 use Rattle.windows.proofs.until_parts.Tie as tie
 
 abbrev Inv-loop : tie.InvT-loop
-Inv-loop s₀ d e count ks i₀ s i = (s ≡ untilParts d e i ks s₀) × (length s ≡ length s₀) × (i ≤ count) × (length ks ≡ 12)
+Inv-loop s₀ d e count ks i₀ s i = (s ≡ byParts until all d e i ks s₀) × (length s ≡ length s₀) × (i ≤ count) × (length ks ≡ 12)
 
 abbrev μ-loop : tie.MeasureT-loop
 μ-loop s₀ d e count ks i₀ s i = count - i
@@ -29,8 +32,8 @@ loop-again c =
     let k : b .loop .i < length (a .t4) = omega (arith, i .3) in
     let v = widthOf (b .loop .i) (a .t4) in
     let ks = take (b .loop .i) (a .t4) in (
-      parts-more (a .d) (a .e) (a .t4) (b .loop .i) (a .s .now) k (turn-is h v ks (i .0) p _ (getD (a .t4) (b .loop .i) 0) (u .ensures)),
-      u .kept .0 ∙ turn-length h v ks (i .0) p,
+      parts-more until-laws (a .d) (a .e) (a .t4) (b .loop .i) (a .s .now) k (turn-is until-laws h v ks (i .0) p _ (getD (a .t4) (b .loop .i) 0) (u .ensures)),
+      u .kept .0 ∙ turn-length until-laws h v ks (i .0) p,
       search needs,
       i .3,
     )
@@ -39,7 +42,7 @@ pub until-parts-spec : {M : Type 1} → statement M
 until-parts-spec =
     tie.close
     (tie.spec Inv-loop μ-loop
-    (λ c. let a = c .before .args in (parts-none (a .d) (a .e) (a .t4) (a .s .now) (c .before .pre .0) (λ w. c .slice-known .given w .fits), refl, search needs, search needs))
+    (λ c. let a = c .before .args in (parts-none until-laws (a .d) (a .e) (a .t4) (a .s .now) (c .before .pre .0) (λ w. c .slice-known .given w .fits), refl, search needs, search needs))
     (search needs)
     (λ c. let b = c .before in omega (arith, b .before .before .pre .1 .1 (b .loop .i) (c .loop-test .taken)))
     (search needs) (search needs) (search needs) (search needs) (search needs) (search needs)

@@ -5,7 +5,8 @@ use native.Mathlib.Omega.{arith}
 use mathlib.Core.Path.{_≡_}
 use borrow.Author.Needs.{needs}
 use lib.ListN.{length}
-use Rattle.windows.proofs.Windows.{some-start, turned-length, widen-more, width-more}
+use Rattle.windows.proofs.Laws.{eventually-laws}
+use Rattle.windows.proofs.Windows.{turned-length, width-more, window-more, window-start}
 use Rattle.windows.specs.Code.Steps.{Eventually, widthOf}
 use Rattle.windows.proofs.widen.Statement.{statement}
 use Rattle.windows.proofs.widen.Tie as tie
@@ -20,7 +21,7 @@ pub widen-spec : {M : Type 1} → statement M
 widen-spec =
     tie.close
     (tie.spec Inv-loop μ-loop
-    (λ c. (some-start (λ j. c .slice-known .given j .fits), search needs, search needs))
+    (λ c. (window-start eventually-laws (λ j. c .slice-known .given j .fits), search needs, search needs))
     (search needs)
     (λ c. let b = c .before in omega (arith, b .before .before .pre .1 (b .loop .i) (c .loop-test .taken)))
     (λ c κs. let b = c .before .before in b .before .before .pre .1 (b .loop .i) (c .before .loop-test .taken))
@@ -28,6 +29,6 @@ widen-spec =
     (λ c.
     let b = c .before .before .before .before .before in
     let a = b .before .before .args in
-    (rw (width-more (a .t2) (b .loop .i) (omega arith)) (widen-more _ _ (b .loop .inv .0) (c .before .before .some-within .ensures)), search needs, b .loop .inv .2))
+    (rw (width-more (a .t2) (b .loop .i) (omega arith)) (window-more eventually-laws _ _ (b .loop .inv .0) (c .before .before .some-within .ensures)), search needs, b .loop .inv .2))
     (λ c. turned-length (c .before .loop .inv .0))
     (λ c. rw (← le-antisymm (c .before .loop .inv .1) (c .loop-test .left)) (c .before .loop .inv .0)))

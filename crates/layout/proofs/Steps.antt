@@ -16,14 +16,7 @@ use Rattle.column.proofs.Parts.{register-part}
 use Rattle.operators.specs.Operators.{worked, Operand}
 use Rattle.operators.proofs.Fits.{Four}
 use Rattle.operators.proofs.Worked.{drop-above, worked-here, worked-low, worked-high}
-use Rattle.verdict.specs.Code.Steps.{leftPlace, workPlace, Place, Step}
-
--- a register below what is known
-pub kept-register : (b at m : ℕ) (xs ys : List ℕ) → take b ys ≡ take b xs → at + m ≤ b → b ≤ length xs → b ≤ length ys → register at m ys ≡ register at m xs
-kept-register b at m xs ys e h l k = sym (whole ys k) ∙ ap (register at m) e ∙ whole xs l
-  where
-    whole : (zs : List ℕ) → b ≤ length zs → register at m (take b zs) ≡ register at m zs
-    whole zs j = register-part 0 b at m zs (omega arith) h ∙ ap (λ (i : ℕ). register i m zs) (zero-add at)
+use Rattle.layout.specs.Layout.{leftPlace, workPlace, Place, Step}
 
 -- ---- where the operators' registers fit
 pub place-fits : {b m : ℕ} {xs : List ℕ} → Place b m xs → leb (b + m) (length xs) ≡ true
@@ -57,13 +50,13 @@ signal-step {b} {m} {f} {xs} h q =
     laid-step h (place-fits h) (q ∙ ap (λ (k : ℕ). pick (leb (b + m) (length xs)) (lay b k f xs) xs) e)
 
 -- what U and R leave
-pub worked-step : {b m : ℕ} (ks : List ℕ) {f : ℕ → Bool} (g : ℕ → Bool) {xs ys : List ℕ} {t : Bool} → Place b m xs → t ≡ true
-    → ys ≡ pick t (worked b leftPlace workPlace m ks f g xs) xs → Step b m f xs ys
-worked-step {b} {m} ks {f} g {xs} h e q =
+pub worked-step : (Q : ℕ → (ℕ → Bool) → ℕ → Bool) {b m : ℕ} (ks : List ℕ) {f : ℕ → Bool} (g : ℕ → Bool) {xs ys : List ℕ} {t : Bool} → Place b m xs → t ≡ true
+    → ys ≡ pick t (worked Q b leftPlace workPlace m ks f g xs) xs → Step b m f xs ys
+worked-step Q {b} {m} ks {f} g {xs} h e q =
     let i = h .node in let j = h .small in let k = h .enough in
-    let r = q ∙ ap (λ (t : Bool). pick t (worked b leftPlace workPlace m ks f g xs) xs) e in
+    let r = q ∙ ap (λ (t : Bool). pick t (worked Q b leftPlace workPlace m ks f g xs) xs) e in
     record {
-      here = ap (register b m) r ∙ worked-here b leftPlace workPlace m ks f g xs (omega arith) (omega arith) (omega arith);
-      low = ap (take b) r ∙ worked-low b leftPlace workPlace m ks f g xs (omega arith) (omega arith) (omega arith);
-      high = ap (drop scratchWords) r ∙ worked-high b leftPlace workPlace m ks f g xs (omega arith) (omega arith) (omega arith) scratchWords (omega arith);
+      here = ap (register b m) r ∙ worked-here Q b leftPlace workPlace m ks f g xs (omega arith) (omega arith) (omega arith);
+      low = ap (take b) r ∙ worked-low Q b leftPlace workPlace m ks f g xs (omega arith) (omega arith) (omega arith);
+      high = ap (drop scratchWords) r ∙ worked-high Q b leftPlace workPlace m ks f g xs (omega arith) (omega arith) (omega arith) scratchWords (omega arith);
     }

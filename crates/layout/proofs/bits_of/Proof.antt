@@ -1,10 +1,10 @@
--- `verdict::bits_of` meets its contract. Assumes nothing.
+-- `layout::bits_of` meets its contract. Assumes nothing.
 use mathlib.Core.Bool.{Bool}
 use mathlib.Core.Path.{ap, sym}
 use borrow.Author.Tests.{eq-eqb, ne-eqb}
 use Rattle.lists.specs.Choice.{pick}
-use Rattle.verdict.proofs.bits_of.Statement.{statement}
-use Rattle.verdict.proofs.bits_of.Tie as tie
+use Rattle.layout.proofs.bits_of.Statement.{statement}
+use Rattle.layout.proofs.bits_of.Tie as tie
 
 pub bits-of-spec : {M : Type 1} → statement M
 bits-of-spec =
