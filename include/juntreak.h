@@ -26,11 +26,12 @@ extern "C" {
 #define JUNTREAK_SESSION_BYTES 558 /* a session */
 
 /* Sizes in elements. A buffer may be longer. */
-#define JUNTREAK_HISTORY_WORDS 4095 /* least length of history, uint32_t */
-#define JUNTREAK_SCRATCH_WORDS 5280 /* least length of scratch, uint64_t */
-#define JUNTREAK_FEED_WORDS 16      /* least length of out for a feed, uint64_t */
-#define JUNTREAK_CLOSE_WORDS 64     /* least length of out for a close, uint64_t */
-#define JUNTREAK_REGISTER_WORDS 80  /* words of a node's register in the scratch */
+#define JUNTREAK_HISTORY_WORDS 4095        /* least length of history, uint32_t */
+#define JUNTREAK_SCRATCH_WORDS 5280        /* least length of scratch, uint64_t */
+#define JUNTREAK_EARLY_SCRATCH_WORDS 10560 /* the same for juntreak_early */
+#define JUNTREAK_FEED_WORDS 16             /* least length of out for a feed, uint64_t */
+#define JUNTREAK_CLOSE_WORDS 64            /* least length of out for a close, uint64_t */
+#define JUNTREAK_REGISTER_WORDS 80         /* words of a node's register in the scratch */
 
 /* Limits. */
 #define JUNTREAK_MAX_RECORDS 255      /* records of a book, the head included */
@@ -69,9 +70,17 @@ enum {
     /* Tables and sessions. */
     JUNTREAK_UNSOUND = 25,  /* bytes that are no sound table's or no session's */
     JUNTREAK_ABSENT = 21,   /* rule number not below the rule count */
-    JUNTREAK_STATES = 22,   /* above 1024 states (feed) or 5120 (whole trace) */
+    JUNTREAK_STATES = 22,   /* above 1024 states (feed) or 5120 (whole trace, early) */
     JUNTREAK_BUFFER = 23,   /* history, scratch or out too short */
-    JUNTREAK_SEEN = 24      /* seen + k above 4294967295 */
+    JUNTREAK_SEEN = 24,     /* seen + k above 4294967295 */
+    JUNTREAK_TICK = 31      /* tick not below the states given */
+};
+
+/* The values that juntreak_early answers. */
+enum {
+    JUNTREAK_NO = 0,
+    JUNTREAK_YES = 1,
+    JUNTREAK_OPEN = 2 /* not decided by the states given */
 };
 
 /* What an answer holds. */
@@ -84,6 +93,9 @@ enum {
 /* of juntreak_split: the number, and the count of parts */
 #define JUNTREAK_SPLIT_NUMBER(answer) ((uint32_t)(answer) % 256)
 #define JUNTREAK_SPLIT_COUNT(answer) ((uint32_t)(answer) / 256)
+/* of juntreak_early: the number, and the value */
+#define JUNTREAK_EARLY_NUMBER(answer) ((uint32_t)(answer) % 256)
+#define JUNTREAK_EARLY_VALUE(answer) ((uint32_t)(answer) / 256)
 /* of juntreak_feed and juntreak_close: the number, and the count of verdicts */
 #define JUNTREAK_CALL_NUMBER(answer) ((uint32_t)(answer))
 #define JUNTREAK_CALL_COUNT(answer) ((uint32_t)((uint64_t)(answer) >> 32))
@@ -155,6 +167,24 @@ uint32_t juntreak_verdicts(const uint8_t table[JUNTREAK_TABLE_BYTES],
                            uint32_t rule, const uint32_t *states, size_t n,
                            uint64_t *scratch, size_t x,
                            uint64_t *out, size_t o);
+
+/* What n states, the first of a trace, already decide about a rule at a tick
+ * below n, n at most 5120. x is the length of scratch, at least 10560.
+ * Answers number + 256 * value, numbers 0, 25, 21, 22, 23, 31; the value is 0
+ * if refused. If the number is 0, the value is JUNTREAK_NO, JUNTREAK_YES or
+ * JUNTREAK_OPEN, by three-valued logic with open in the middle:
+ * - every node, a constant included, is open at a tick not below n;
+ * - not turns the values round, and is the smaller, or the larger;
+ * - F is the or, G the and, of its operand over every tick of the interval,
+ *   those not below n included; U and R follow from their definitions.
+ * A yes or no never changes when more states come, and it is the verdict of
+ * the closed trace, wherever that ends. With tick + delay < n the value is
+ * not open. A simplified table may be decided after fewer states; the verdict
+ * is the same. The first 10560 words of scratch are zero, the others
+ * unchanged. */
+uint32_t juntreak_early(const uint8_t table[JUNTREAK_TABLE_BYTES],
+                        uint32_t rule, const uint32_t *states, size_t n,
+                        size_t tick, uint64_t *scratch, size_t x);
 
 /* Simplifies a table in place. Answers the number: 0, or 25 with the table
  * unchanged. If it is 0, every verdict of every rule on every trace is as

@@ -9,15 +9,17 @@ fn main() {
     let header = format!("{here}/../include/juntreak.h");
     println!("cargo:rerun-if-changed={header}");
     let text = std::fs::read_to_string(header).unwrap();
-    let (mut limits, mut refusals) = (vec![], vec![]);
+    let (mut limits, mut enums) = (vec![], vec![]);
     for line in text.lines() {
         match line.split_whitespace().collect::<Vec<_>>()[..] {
             ["#define", name, value, ..] => limits.extend(constant(name, value)),
-            [name, "=", value, ..] => refusals.extend(constant(name, value.trim_end_matches(','))),
+            ["enum", "{"] => enums.push(vec![]),
+            [name, "=", value, ..] => enums.last_mut().expect("a value outside an enum").extend(constant(name, value.trim_end_matches(','))),
             _ => {}
         }
     }
-    let modules = module("limits", "usize", &limits) + &module("refusals", "u32", &refusals);
+    let [refusals, values] = &enums[..] else { panic!("the header has other enums than the numbers and the values of an early answer") };
+    let modules = module("limits", "usize", &limits) + &module("refusals", "u32", refusals) + &module("values", "u32", values);
     std::fs::write(std::env::var("OUT_DIR").unwrap() + "/header.rs", modules).unwrap();
 }
 

@@ -1,4 +1,4 @@
-//! The formulas that the benchmarks share.
+//! The formulas that the benchmarks and tests share.
 use crate::model::{Node, Rule, Table};
 
 /// A formula as nodes, operands first.
@@ -58,6 +58,14 @@ pub fn until(lo: u16, hi: u16) -> Table {
     let (p, q) = (f.signal(0), f.signal(1));
     f.until(lo, hi, p, q);
     f.table()
+}
+
+/// A temporal node of a kind at place 2, over signal 0 and, where it has two operands, signal 1.
+pub fn temporal(kind: u8, lo: u16, hi: u16) -> Table {
+    let signal = |arg| Node { kind: 1, arg, lo: 0, hi: 0, left: 0, right: 0 };
+    let right = if kind >= 9 { 1 } else { 0 };
+    let node = Node { kind, arg: 0, lo, hi, left: 0, right };
+    Table { nodes: vec![signal(0), signal(1), node], rules: vec![Rule { name: 1, watched: 2 }] }
 }
 
 fn minimum_duration() -> Table {

@@ -1,8 +1,8 @@
-//! The limits and refusal numbers of include/juntreak.h, without their JUNTREAK_; build.rs reads them from there.
+//! The limits, refusal numbers and early values of include/juntreak.h, without their JUNTREAK_; build.rs reads them from there.
 include!(concat!(env!("OUT_DIR"), "/header.rs"));
 
 /// More than every refusal number: the length of a list of counts by number.
-pub const NUMBERS: usize = refusals::UNSOUND as usize + 1;
+pub const NUMBERS: usize = refusals::TICK as usize + 1;
 
 /// The least length of out for a whole trace of n states.
 pub const fn whole_words(n: usize) -> usize {

@@ -1,9 +1,10 @@
 //! The proved library as Rust sees it (`library`), the limits and refusal numbers of its C header (`header`), models written from the
-//! documents alone (`model`, `program`), random input (`random`), and where programs run (`place`). For the benchmarks (`bench`): the
+//! documents alone (`model`, `known`, `program`), random input (`random`), and where programs run (`place`). For the benchmarks (`bench`): the
 //! formulas (`formulas`), and what the library and the program are compared with (`naive`, `queue`, `twin`, `plain`).
 pub mod bench;
 pub mod formulas;
 pub mod header;
+pub mod known;
 pub mod library;
 pub mod model;
 pub mod naive;

@@ -14,6 +14,7 @@ mod raw {
         pub fn juntreak_delay(table: *const TableBytes, rule: u32) -> u32;
         pub fn juntreak_split(lo: u16, hi: u16, parts: *mut Parts) -> u32;
         pub fn juntreak_verdicts(table: *const TableBytes, rule: u32, states: *const u32, n: usize, scratch: *mut u64, x: usize, out: *mut u64, o: usize) -> u32;
+        pub fn juntreak_early(table: *const TableBytes, rule: u32, states: *const u32, n: usize, tick: usize, scratch: *mut u64, x: usize) -> u32;
         pub fn juntreak_simplify(table: *mut TableBytes) -> u32;
         pub fn juntreak_open(table: *const TableBytes, rule: u32, session: *mut SessionBytes) -> u32;
         pub fn juntreak_feed(session: *mut SessionBytes, block: *const u32, k: usize, history: *mut u32, h: usize, scratch: *mut u64, x: usize, out: *mut u64, o: usize) -> u64;
@@ -47,6 +48,12 @@ pub fn split(lo: u16, hi: u16, parts: &mut Parts) -> (u32, usize) {
 /// The number.
 pub fn verdicts(table: &TableBytes, rule: u32, states: &[u32], scratch: &mut [u64], out: &mut [u64]) -> u32 {
     unsafe { raw::juntreak_verdicts(table, rule, states.as_ptr(), states.len(), scratch.as_mut_ptr(), scratch.len(), out.as_mut_ptr(), out.len()) }
+}
+
+/// The number and the value.
+pub fn early(table: &TableBytes, rule: u32, states: &[u32], tick: usize, scratch: &mut [u64]) -> (u32, u32) {
+    let r = unsafe { raw::juntreak_early(table, rule, states.as_ptr(), states.len(), tick, scratch.as_mut_ptr(), scratch.len()) };
+    (r % 256, r / 256)
 }
 
 /// The number.

@@ -100,6 +100,32 @@ pub fn trace(r: &mut Random, n: usize) -> Vec<u32> {
         .collect()
 }
 
+/// The bits of signals 0 and 1 while nothing decides a window of `formulas::temporal`: F waits for a set signal 0 and G for a clear one; U waits for a
+/// set signal 1 or a clear signal 0, and R for the opposites.
+pub fn quiet(kind: u8) -> u32 {
+    [0, 1, 1, 2][kind as usize - 7]
+}
+
+/// The bit of the signal whose change turns a verdict over; U and R also end their search at a change of signal 0.
+pub fn turning(kind: u8) -> u32 {
+    if kind >= 9 {
+        2
+    } else {
+        1
+    }
+}
+
+/// States in which signals 0 and 1 are rarely anything but quiet: one of them changes, or both at once. The other signals are random.
+pub fn quiet_trace(r: &mut Random, kind: u8, n: usize) -> Vec<u32> {
+    let rare = r.pick(&[300, 1_000, 3_000, 10_000]);
+    (0..n)
+        .map(|_| {
+            let changed = if r.chance(rare) { 1 + r.below(3) as u32 } else { 0 };
+            (r.next() as u32 & !3) | (quiet(kind) ^ changed)
+        })
+        .collect()
+}
+
 /// The book of a table, with rules between the nodes, records in random order, and spare records of dirt.
 pub fn book(r: &mut Random, t: &Table) -> Vec<u8> {
     let needed = t.nodes.len() + t.rules.len();
@@ -346,6 +372,15 @@ pub fn redundant(r: &mut Random, count: usize, longest: usize) -> Table {
         t.rules.push(Rule { name, watched: watched as u8 });
     }
     t
+}
+
+/// A sound table of either kind.
+pub fn any_table(r: &mut Random, count: usize, longest: usize) -> Table {
+    if r.chance(4) {
+        redundant(r, count, longest)
+    } else {
+        table(r, count, longest)
+    }
 }
 
 /// A sound table that no law of simplifying fits.

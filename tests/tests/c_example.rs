@@ -34,6 +34,11 @@ fn the_example_prints_the_worked_lines() {
 }
 
 #[test]
+fn the_rule_is_decided_in_its_third_tick() {
+    assert_eq!(printed("early"), "rule 7, delay 600\nseen 1: open\nseen 2: open\nseen 3: no\n");
+}
+
+#[test]
 fn the_rows_are_those_worked_by_hand() {
     assert_eq!(printed("rows"), include_str!("../../examples/rows.txt"));
 }

@@ -1,19 +1,20 @@
-//! The limits and refusal numbers: document 01's values in the C header, and the same names and values in the Rattle crates and in their specifications.
+//! The limits and refusal numbers: the documents' values in the C header, and the same names and values in the Rattle crates and in their specifications.
 use juntreak_tests::header::limits::{self, MAX_NODES, MAX_RULES, NODE_COUNT_AT, RULE_COUNT_AT, SESSION_BYTES, TABLE_BYTES};
 use juntreak_tests::header::places::{node_at, rule_at, RULE_NUMBER_AT, SEEN_AT};
-use juntreak_tests::header::{refusals, NUMBERS};
+use juntreak_tests::header::{refusals, values, NUMBERS};
 use std::collections::{BTreeMap, BTreeSet};
 
 type Constants = BTreeMap<String, u64>;
 
 /// Every constant of the header.
-const VALUES: [(&str, u64); 40] = [
+const VALUES: [(&str, u64); 45] = [
     ("RECORD_BYTES", 12),
     ("BOOK_BYTES", 3060),
     ("TABLE_BYTES", 546),
     ("SESSION_BYTES", 558),
     ("HISTORY_WORDS", 4095),
     ("SCRATCH_WORDS", 5280),
+    ("EARLY_SCRATCH_WORDS", 10560),
     ("FEED_WORDS", 16),
     ("CLOSE_WORDS", 64),
     ("REGISTER_WORDS", 80),
@@ -48,9 +49,13 @@ const VALUES: [(&str, u64); 40] = [
     ("STATES", 22),
     ("BUFFER", 23),
     ("SEEN", 24),
+    ("TICK", 31),
+    ("NO", 0),
+    ("YES", 1),
+    ("OPEN", 2),
 ];
 
-/// What the header has beside the Rattle crates.
+/// What the header's limits and refusals have beside those of the Rattle crates; its values are in C only.
 const IN_C_ONLY: [&str; 3] = ["NODE_COUNT_AT", "RULE_COUNT_AT", "OK"];
 
 fn constants(list: &[(&str, u64)]) -> Constants {
@@ -141,7 +146,7 @@ fn shared(list: &[(&str, u64)]) -> Constants {
 
 #[test]
 fn the_header_has_the_documents_values() {
-    same("header", constants(&[limits::ALL, refusals::ALL].concat()), constants(&VALUES));
+    same("header", constants(&[limits::ALL, refusals::ALL, values::ALL].concat()), constants(&VALUES));
 }
 
 #[test]

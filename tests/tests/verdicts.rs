@@ -1,10 +1,11 @@
 //! Verdicts of whole traces, against the naive evaluator.
+use juntreak_tests::formulas::temporal;
 use juntreak_tests::header::limits::{MAX_DELAY, MAX_INTERVAL, MAX_NODES, MAX_TRACE, SCRATCH_WORDS};
 use juntreak_tests::header::refusals::{ABSENT, BUFFER, OK, STATES, UNSOUND};
 use juntreak_tests::header::{whole_words, NUMBERS};
 use juntreak_tests::library::{verdicts, TableBytes};
 use juntreak_tests::model::{self, Node, Rule, Table};
-use juntreak_tests::random::{damage, redundant, table, trace, words, Random};
+use juntreak_tests::random::{any_table, damage, quiet, quiet_trace, table, trace, turning, words, Random};
 use juntreak_tests::same;
 
 /// One call over dirty buffers of the given lengths, every word compared; returns the number and out.
@@ -29,14 +30,6 @@ fn accepted(r: &mut Random, t: &Table, rule: usize, states: &[u32]) -> Vec<bool>
     let (number, out) = compare(r, &t.bytes(), rule as u32, states, scratch, out);
     assert_eq!(number, OK);
     (0..states.len()).map(|i| out[i / 64] >> (i % 64) & 1 == 1).collect()
-}
-
-fn any_table(r: &mut Random, count: usize, longest: usize) -> Table {
-    if r.chance(4) {
-        redundant(r, count, longest)
-    } else {
-        table(r, count, longest)
-    }
 }
 
 #[test]
@@ -87,14 +80,6 @@ fn random_tables_on_long_traces() {
     }
 }
 
-/// A temporal node at place 2, over signal 0 and, where it has two operands, signal 1.
-fn temporal(kind: u8, lo: u16, hi: u16) -> Table {
-    let signal = |arg| Node { kind: 1, arg, lo: 0, hi: 0, left: 0, right: 0 };
-    let right = if kind >= 9 { 1 } else { 0 };
-    let node = Node { kind, arg: 0, lo, hi, left: 0, right };
-    Table { nodes: vec![signal(0), signal(1), node], rules: vec![Rule { name: 1, watched: 2 }] }
-}
-
 /// Each temporal kind at chosen limits: word limits, single points, the longest intervals.
 #[test]
 fn intervals_at_the_limits() {
@@ -119,32 +104,6 @@ fn intervals_at_the_limits() {
             }
         }
     }
-}
-
-/// The bits of signals 0 and 1 while nothing decides a window: F waits for a set signal 0 and G for a clear one; U waits for a set signal 1 or a clear
-/// signal 0, and R for the opposites.
-fn quiet(kind: u8) -> u32 {
-    [0, 1, 1, 2][kind as usize - 7]
-}
-
-/// The bit of the signal whose change turns a verdict over; U and R also end their search at a change of signal 0.
-fn turning(kind: u8) -> u32 {
-    if kind >= 9 {
-        2
-    } else {
-        1
-    }
-}
-
-/// States in which signals 0 and 1 are rarely anything but quiet: one of them changes, or both at once. The other signals are random.
-fn quiet_trace(r: &mut Random, kind: u8, n: usize) -> Vec<u32> {
-    let rare = r.pick(&[300, 1_000, 3_000, 10_000]);
-    (0..n)
-        .map(|_| {
-            let changed = if r.chance(rare) { 1 + r.below(3) as u32 } else { 0 };
-            (r.next() as u32 & !3) | (quiet(kind) ^ changed)
-        })
-        .collect()
 }
 
 /// How the verdicts of one kind were decided.

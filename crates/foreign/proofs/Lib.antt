@@ -1,2 +1,4 @@
 -- the third demand for calls of the C interface
 mod Demand
+-- early answers
+pub mod Early

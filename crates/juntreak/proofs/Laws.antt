@@ -14,11 +14,13 @@ use Rattle.flat.specs.Flat.{tableFrom, written}
 use Rattle.simplify.specs.declared.Simplified.{Simplified}
 use Rattle.simplify.specs.Promise.{Promised}
 use Rattle.verdict.specs.Verdict.{Answered}
+use Rattle.early.specs.declared.Decision.{Decision}
+use Rattle.early.specs.Early.{toldBy, earlyTold, earlyScratch, Decides}
 use Rattle.session.specs.declared.Session.{Session}
 use Rattle.session.specs.declared.Answer.{Answer}
 use Rattle.session.specs.Session.{Effect, unfit, feedNumber, feeding, closeNumber, closing}
 use Rattle.session.proofs.Answers.{feed-fits, close-fits, unfit-short}
-use Rattle.juntreak.specs.Answers.{leaves, sessionAnswer, Simplifies, counted, Called}
+use Rattle.juntreak.specs.Answers.{leaves, earlyAnswer, sessionAnswer, Simplifies, counted, Called}
 
 -- ---- what a call leaves in a buffer
 pub renews : {number : ℕ} {new b : List ℕ} (old : List ℕ) → number ≡ 0 → b ≡ new → b ≡ leaves number new old
@@ -35,6 +37,14 @@ simplified-bytes b {r = r} e p q = record { answer = r; promised = subst (λ (u 
 -- ---- whole-trace verdicts
 pub answered-by : {t u : Table} {rule n : ℕ} {states x o x′ o′ : List ℕ} → t ≡ u → Answered t rule states x o n x′ o′ → Answered u rule states x o n x′ o′
 answered-by {rule = rule} {n = n} {states = states} {x = x} {o = o} {x′ = x′} {o′ = o′} e p = subst (λ (z : Table). Answered z rule states x o n x′ o′) e p
+
+-- ---- what is known
+pub told-by : {t u : Table} {rule : ℕ} {states : List ℕ} {tick : ℕ} {x : List ℕ} {d : Decision} {x′ : List ℕ} {r : ℕ} → t ≡ u → Decides t rule states tick x d x′
+    → r ≡ earlyAnswer (toldBy d) → (r ≡ earlyAnswer (earlyTold u rule states tick x)) × (x′ ≡ earlyScratch u rule states tick x)
+told-by {rule = rule} {states = states} {tick = tick} {x = x} e p q = (
+  q ∙ ap earlyAnswer (p .tells) ∙ ap (λ (z : Table). earlyAnswer (earlyTold z rule states tick x)) e,
+  p .clears ∙ ap (λ (z : Table). earlyScratch z rule states tick x) e,
+)
 
 -- ---- calls
 pub called-is : {e : Effect} {r : Answer} {b b′ h x o : List ℕ} → _≡_ {A = Effect} (record { answer = r; history = h; scratch = x; out = o }) e

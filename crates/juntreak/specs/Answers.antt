@@ -10,6 +10,8 @@ use Rattle.flat.specs.Flat.{tableFrom, written}
 use Rattle.flat.specs.Sessions.{renewed}
 use Rattle.simplify.specs.declared.Simplified.{Simplified}
 use Rattle.simplify.specs.Promise.{Promised}
+use Rattle.mltl.specs.Known.{Value, no, undecided, yes}
+use Rattle.early.specs.Early.{Told, refused, value}
 use Rattle.session.specs.declared.Answer.{Answer}
 use Rattle.session.specs.Session.{Effect}
 
@@ -28,6 +30,17 @@ splitAnswer r = r .number + 256 * r .count
 -- the number of a refusal and, above it, the count of verdicts
 abbrev pub sessionAnswer : Answer → ℕ
 sessionAnswer r = r .number + 4294967296 * r .count
+
+-- 0 for no, 1 for yes, 2 for open
+abbrev pub valueNumber : Value → ℕ
+valueNumber no = 0
+valueNumber yes = 1
+valueNumber undecided = 2
+
+-- the number of a refusal or, above it, the value
+abbrev pub earlyAnswer : Told → ℕ
+earlyAnswer (refused number) = number
+earlyAnswer (value v) = 256 * valueNumber v
 
 -- the bytes of a table after the simplifier: its answer is free but for what is promised of it
 pub record Simplifies (before : List ℕ) (number : ℕ) (after : List ℕ) : Type 0 where

@@ -5,11 +5,13 @@ ghost use Rattle.interval.specs.Parts.{splitting};
 ghost use Rattle.table.specs.Sound.{ruleDelay};
 ghost use Rattle.book.specs.Reading.{reading, codeOf};
 ghost use Rattle.verdict.specs.Verdict.{Answered};
+ghost use Rattle.early.specs.Early.{toldBy, earlyTold, earlyScratch};
 ghost use Rattle.session.specs.Session.{opening, feeding, closing};
 ghost use Rattle.flat.specs.Flat.{tableFrom, written};
 ghost use Rattle.flat.specs.Sessions.{sessionFrom, sessionWritten};
-ghost use Rattle.juntreak.specs.Answers.{leaves, delayAnswer, splitAnswer, Simplifies, counted, Called};
+ghost use Rattle.juntreak.specs.Answers.{leaves, delayAnswer, splitAnswer, earlyAnswer, Simplifies, counted, Called};
 use book::Reading;
+use early::Decision;
 use limits::MAX_PARTS;
 use limits::SESSION_BYTES;
 use limits::TABLE_BYTES;
@@ -112,6 +114,32 @@ pub extern "C" fn juntreak_verdicts(
 {
     let t = flat::read_table(table);
     verdict::verdicts(t, rule as usize, states, scratch, out) as u32
+}
+
+fn early_code(d: Decision) -> u32
+    ensures { λ r. ⌜ r ≡ earlyAnswer (toldBy d) ⌝ }
+{
+    match d {
+        Decision::Refused(number) => number as u32,
+        Decision::No => 0,
+        Decision::Yes => 256,
+        Decision::Open => 512,
+    }
+}
+
+// What is known of a rule at a tick when these states were seen.
+#[no_mangle]
+pub extern "C" fn juntreak_early(
+    table: &[u8; TABLE_BYTES],
+    rule: u32,
+    states: &[u32],
+    tick: usize,
+    scratch: &mut [u64],
+) -> u32
+    ensures { λ r. ⌜ (r ≡ earlyAnswer (earlyTold (tableFrom (now (table .entry))) rule (now (states .entry)) tick (now (scratch .entry)))) × (now (scratch .exit) ≡ earlyScratch (tableFrom (now (table .entry))) rule (now (states .entry)) tick (now (scratch .entry))) ⌝ }
+{
+    let t = flat::read_table(table);
+    early_code(early::decide(t, rule as usize, states, tick, scratch))
 }
 
 // The table simplified, in its place.

@@ -8,3 +8,5 @@ mod Seen
 pub mod Listed
 -- the third demand
 pub mod ThirdDemand
+-- what is known while a session runs
+pub mod Early

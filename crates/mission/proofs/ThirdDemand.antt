@@ -36,10 +36,10 @@ module _ (m : Start) where
   abbrev u : Table
   u = m .simplified .table
 
-  better : Simpler t u
+  pub better : Simpler t u
   better = simpler t (m .simplified) (m .promised) (m .accepted)
 
-  watched : m .rule < t .«rule_count»
+  pub watched : m .rule < t .«rule_count»
   watched = omega (arith, opened-rule u (m .rule) (m .opened), better .rule-count)
 
   fresh : sessionOf m ≡ record { table = u; rule = m .rule; seen = 0 }

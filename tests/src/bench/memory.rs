@@ -2,7 +2,7 @@
 use super::markdown::{number, table};
 use super::runs::{dense, Buffers};
 use crate::formulas;
-use crate::header::limits::{CLOSE_WORDS, FEED_WORDS, HISTORY_WORDS, MAX_BLOCK, MAX_NODES, MAX_TRACE, SCRATCH_WORDS, SESSION_BYTES};
+use crate::header::limits::{CLOSE_WORDS, EARLY_SCRATCH_WORDS, FEED_WORDS, HISTORY_WORDS, MAX_BLOCK, MAX_NODES, MAX_TRACE, SCRATCH_WORDS, SESSION_BYTES};
 use crate::header::refusals::OK;
 use crate::header::whole_words;
 use crate::library::{self, SessionBytes, TableBytes};
@@ -62,11 +62,12 @@ fn under_way(table: &TableBytes, seen: usize) -> (SessionBytes, Buffers) {
 }
 
 /// The stacks of the accepted calls over one table.
-fn stacks_of(t: &Table) -> [Option<usize>; 6] {
+fn stacks_of(t: &Table) -> [Option<usize>; 7] {
     let (states, bytes) = (dense(MAX_TRACE), t.bytes());
     let book = random::book(&mut Random(1), t);
     let (mut session, mut b) = under_way(&bytes, 5000);
     let (mut ended, mut table, mut opened, mut out) = (session, bytes, session, [0; whole_words(MAX_TRACE)]);
+    let mut wide = vec![0; EARLY_SCRATCH_WORDS];
     [
         stack_of(|| assert_eq!(library::read(&book, &mut table), (OK, 0))),
         stack_of(|| assert_eq!(library::simplify(&mut table), OK)),
@@ -74,6 +75,7 @@ fn stacks_of(t: &Table) -> [Option<usize>; 6] {
         stack_of(|| assert_eq!(library::feed(&mut session, &states[..MAX_BLOCK], &mut b.history, &mut b.scratch, &mut b.out).0, OK)),
         stack_of(|| assert_eq!(library::close(&mut ended, &b.history, &mut b.scratch, &mut b.out).0, OK)),
         stack_of(|| assert_eq!(library::verdicts(&bytes, 0, &states, &mut b.scratch, &mut out), OK)),
+        stack_of(|| assert_eq!(library::early(&bytes, 0, &states, 0, &mut wide).0, OK)),
     ]
 }
 
@@ -81,7 +83,7 @@ fn stacks_of(t: &Table) -> [Option<usize>; 6] {
 fn stacks() -> Vec<Vec<String>> {
     let tables = formulas::all().into_iter().map(|f| f.1).chain([formulas::of_nodes(MAX_NODES as u8), formulas::finally(0, 4084), formulas::until(0, 4084)]);
     let all: Vec<_> = tables.map(|t| stacks_of(&t)).collect();
-    let names = ["juntreak_read", "juntreak_simplify", "juntreak_open", "juntreak_feed", "juntreak_close", "juntreak_verdicts"];
+    let names = ["juntreak_read", "juntreak_simplify", "juntreak_open", "juntreak_feed", "juntreak_close", "juntreak_verdicts", "juntreak_early"];
     let largest = |i: usize| all.iter().map(|x| x[i]).max().unwrap();
     names.iter().enumerate().map(|(i, name)| vec![name.to_string(), largest(i).map_or("not measured".into(), bytes)]).collect()
 }

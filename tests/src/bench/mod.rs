@@ -1,5 +1,6 @@
 //! The benchmarks, a module for each group of tables.
 pub mod clock;
+pub mod early;
 pub mod growth;
 pub mod markdown;
 pub mod memory;

@@ -12,9 +12,10 @@ use crate::twin;
 use std::hint::black_box;
 
 const OUT_WORDS: usize = whole_words(MAX_TRACE);
-const CALLS: usize = 20;
+/// Calls of one round.
+pub const CALLS: usize = 20;
 
-type Verdicts = fn(&TableBytes, u32, &[u32], &mut [u64], &mut [u64]) -> u32;
+pub type Verdicts = fn(&TableBytes, u32, &[u32], &mut [u64], &mut [u64]) -> u32;
 
 /// The verdicts as words, from one call.
 fn words(f: Verdicts, bytes: &TableBytes, states: &[u32]) -> Vec<u64> {
@@ -24,7 +25,7 @@ fn words(f: Verdicts, bytes: &TableBytes, states: &[u32]) -> Vec<u64> {
 }
 
 /// A contestant of `CALLS` calls.
-fn calls<'a>(f: Verdicts, bytes: TableBytes, states: &'a [u32]) -> Contestant<'a> {
+pub fn calls<'a>(f: Verdicts, bytes: TableBytes, states: &'a [u32]) -> Contestant<'a> {
     let (mut scratch, mut out) = (vec![0; SCRATCH_WORDS], vec![0; OUT_WORDS]);
     Box::new(move |_| {
         for _ in 0..CALLS {
@@ -33,11 +34,15 @@ fn calls<'a>(f: Verdicts, bytes: TableBytes, states: &'a [u32]) -> Contestant<'a
     })
 }
 
+/// The time of one call, in a run of `CALLS`.
+pub fn microseconds(time: f64) -> String {
+    number(time / CALLS as f64 * 1e6, 2) + " µs"
+}
+
 fn beside_twin((name, t): Named, states: &[u32]) -> Vec<String> {
     let bytes = t.bytes();
     assert_eq!(words(library::verdicts, &bytes, states), words(twin::verdicts, &bytes, states), "{name}");
     let [ours, twins] = in_turns(300, [library::verdicts, twin::verdicts].map(|f: Verdicts| calls(f, bytes, states)));
-    let microseconds = |time: f64| number(time / CALLS as f64 * 1e6, 2) + " µs";
     vec![name.into(), microseconds(ours), microseconds(twins), number(ours / twins, 2), "≤ 1.25".into()]
 }
 

@@ -1,0 +1,16 @@
+-- An early answer is the verdict of the rule as it stood in the book. Assumes nothing.
+use Prim.Native.Nat.{ℕ, _<_}
+use native.Mathlib.Omega.{arith}
+use mathlib.Core.Path.{_≡_, sym, _∙_}
+use mathlib.Core.List.{_++_}
+use lib.ListN.{length, length-append}
+use Rattle.early.proofs.Promise.{relied}
+use Rattle.mission.specs.Mission.{Start}
+use Rattle.mission.specs.Early.{EarlyVerdict}
+use Rattle.mission.proofs.ThirdDemand.{better, watched}
+
+pub early-verdict : EarlyVerdict
+early-verdict m states tick scratch b e later =
+    let c = relied (m .simplified .table) (m .rule) states tick scratch in
+    let h : tick < length states = c .seen b e in
+    sym (better m .verdicts (m .rule) (watched m) (states ++ later) tick (omega (arith, length-append states later))) ∙ c .verdict b e later
