@@ -1,7 +1,7 @@
 //! Random numbers, tables, books and traces.
 use crate::header::limits::{MAX_RECORDS, MAX_RULES, MAX_SIGNAL, RECORD_BYTES, TABLE_BYTES};
 use crate::header::places::rule_at;
-use crate::model::{law_at, unused, Node, Rule, Table};
+use crate::model::{law_at, sound, unused, Node, Rule, Table};
 
 /// SplitMix64.
 pub struct Random(pub u64);
@@ -256,6 +256,19 @@ pub fn damage(r: &mut Random, b: &mut [u8]) {
         };
         b[at] = r.pick(&[0, 1, 2, 8, 16, 63, 64, 255, r.0 as u8]);
     }
+}
+
+/// What a call for a rule is asked of: the bytes of a table, sound or not, and the number of a rule, there or not.
+pub fn asked(r: &mut Random, unsound: bool, absent: bool) -> ([u8; TABLE_BYTES], u32) {
+    let count = 1 + r.below(12) as usize;
+    let t = table(r, count, 300);
+    let mut bytes = t.bytes();
+    while unsound && sound(&bytes).is_some() {
+        damage(r, &mut bytes);
+    }
+    let rules = t.rules.len() as u32;
+    let rule = if absent { r.pick(&[rules, rules + 1, 8, 256, u32::MAX]) } else { r.below(rules as u64) as u32 };
+    (bytes, rule)
 }
 
 /// The delay of the operands of a node.

@@ -5,7 +5,7 @@ use juntreak_tests::header::refusals::{ABSENT, BUFFER, OK, STATES, UNSOUND};
 use juntreak_tests::header::{whole_words, NUMBERS};
 use juntreak_tests::library::{verdicts, TableBytes};
 use juntreak_tests::model::{self, Node, Rule, Table};
-use juntreak_tests::random::{any_table, damage, quiet, quiet_trace, table, trace, turning, words, Random};
+use juntreak_tests::random::{any_table, asked, damage, quiet, quiet_trace, table, trace, turning, words, Random};
 use juntreak_tests::same;
 
 /// One call over dirty buffers of the given lengths, every word compared; returns the number and out.
@@ -199,14 +199,7 @@ fn refusals_and_their_order() {
     for _ in 0..40 {
         for case in 0..32u32 {
             let is = |bit: u32| case >> bit & 1 == 1;
-            let count = 1 + r.below(12) as usize;
-            let t = table(&mut r, count, 300);
-            let mut bytes = t.bytes();
-            while is(0) && model::sound(&bytes).is_some() {
-                damage(&mut r, &mut bytes);
-            }
-            let rules = t.rules.len() as u32;
-            let rule = if is(1) { r.pick(&[rules, rules + 1, 8, 256, u32::MAX]) } else { r.below(rules as u64) as u32 };
+            let (bytes, rule) = asked(&mut r, is(0), is(1));
             let few = r.below(300) as usize;
             let n = if is(2) { r.pick(&[MAX_TRACE + 1, MAX_TRACE + 2, 6000]) } else { r.pick(&[0, 1, few, few, MAX_TRACE]) };
             let scratch = if is(3) { r.pick(&[0, 1, SCRATCH_WORDS - 1]) } else { SCRATCH_WORDS };

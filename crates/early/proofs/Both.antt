@@ -62,11 +62,11 @@ module _ {i n : ℕ} {x : Node} {xs : List ℕ} (h : Computable earlyScratchWord
 
   -- a column laid in the first, and in the second half
   laid-first : {f : ℕ → Bool} {ys : List ℕ} → ys ≡ lay own m f xs → HalfStep 0 own m f xs ys
-  laid-first {f} q = laid-half {t = true} (inl refl) (h .enough) (place 0 (inl refl)) refl (q ∙ ap (λ (b : ℕ). lay b m f xs) (sym (zero-add own)))
+  laid-first {f} q = laid-half (inl refl) (h .enough) (place 0 (inl refl)) (q ∙ ap (λ (b : ℕ). lay b m f xs) (sym (zero-add own)))
 
 laid-second : {i n : ℕ} {x : Node} {ys zs : List ℕ} {f : ℕ → Bool} → Computable earlyScratchWords i n x ys → zs ≡ lay (scratchWords + registerWords * i) (words n) f ys
     → HalfStep scratchWords (registerWords * i) (words n) f ys zs
-laid-second {f = f} h q = laid-half {t = true} (inr refl) (h .enough) (place h scratchWords (inr refl)) refl q
+laid-second {f = f} h q = laid-half (inr refl) (h .enough) (place h scratchWords (inr refl)) q
 
 -- what a test that holds picks
 picked : (A B : List ℕ) {t : Bool} {ys : List ℕ} → t ≡ true → ys ≡ pick t A B → ys ≡ A

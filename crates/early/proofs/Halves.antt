@@ -70,17 +70,15 @@ lent-by F {p} {b} {m} {xs} {hs} i l n s =
     (subst (λ (j : ℕ). Step b m (F (midOf p j xs)) (midOf p j xs) hs) e s)
 
 -- a column laid in it
-pub laid-half : {p b m : ℕ} {f : ℕ → Bool} {xs ys : List ℕ} {t : Bool} → IsHalf p → earlyScratchWords ≤ length xs → Place b m (half p xs) → t ≡ true
-    → ys ≡ pick t (lay (p + b) m f xs) xs → HalfStep p b m f xs ys
-laid-half {p} {b} {m} {f} {xs} {ys} {t} i l h e q =
-    let u = h .node in let v = h .small in let w = h .enough in
+pub laid-half : {p b m : ℕ} {f : ℕ → Bool} {xs ys : List ℕ} → IsHalf p → earlyScratchWords ≤ length xs → Place b m (half p xs) → ys ≡ lay (p + b) m f xs
+    → HalfStep p b m f xs ys
+laid-half {p} {b} {m} {f} {xs} i l h q =
+    let u = h .node in let v = h .small in
     let fit : p + scratchWords ≤ length xs = ⊎-elim (λ z. omega arith) (λ z. omega arith) i in
     let n : length (half p xs) ≡ scratchWords = half-length p xs i l in
     let hs : List ℕ = lay b m f (half p xs) in
-    let is : ys ≡ putMid p scratchWords xs hs =
-    q ∙ ap (λ (z : Bool). pick z (lay (p + b) m f xs) xs) e ∙ sym (part-laid p scratchWords xs {d = b} {m = m} {f = f} {ys = hs} fit (omega arith) (record { is = refl }) .is)
-    in
-    subst (λ (zs : List ℕ). HalfStep p b m f xs zs) (sym is)
+    subst (λ (zs : List ℕ). HalfStep p b m f xs zs)
+    (sym (q ∙ sym (part-laid p scratchWords xs {d = b} {m = m} {f = f} {ys = hs} fit (omega arith) (record { is = refl }) .is)))
     (lent-half i l scratchWords refl (length-lay b m f (half p xs) (omega (arith, n)) ∙ n) (laid-step {t = true} h refl refl))
 
 -- ---- a step in each
