@@ -6,7 +6,7 @@ use juntreak_tests::header::values::{NO, OPEN, YES};
 use juntreak_tests::header::NUMBERS;
 use juntreak_tests::known::{self, column, known};
 use juntreak_tests::library::{early, TableBytes};
-use juntreak_tests::model::{self, Node, Rule, Table};
+use juntreak_tests::model::{Node, Rule, Table};
 use juntreak_tests::random::{any_table, asked, damage, quiet, quiet_trace, table, trace, turning, words, Random};
 use juntreak_tests::same;
 

@@ -5,7 +5,7 @@ use juntreak_tests::header::refusals::{ABSENT, BUFFER, OK, STATES, UNSOUND};
 use juntreak_tests::header::{whole_words, NUMBERS};
 use juntreak_tests::library::{verdicts, TableBytes};
 use juntreak_tests::model::{self, Node, Rule, Table};
-use juntreak_tests::random::{any_table, asked, damage, quiet, quiet_trace, table, trace, turning, words, Random};
+use juntreak_tests::random::{any_table, asked, quiet, quiet_trace, table, trace, turning, words, Random};
 use juntreak_tests::same;
 
 /// One call over dirty buffers of the given lengths, every word compared; returns the number and out.
