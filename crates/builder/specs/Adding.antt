@@ -22,33 +22,45 @@ use Rattle.builder.specs.declared.Added.{Added}
 abbrev pub badSignal : Node → Bool
 badSignal n = eqb (n .kind) 1 && ltb maxSignal (n .arg)
 
--- an operand that the kind uses is no place of an earlier node
+-- an operand that the kind uses is no place of an earlier node, of which there are `count`
+abbrev pub operandPast : ℕ → Node → Bool
+operandPast count n = (usesOf (opOf (n .kind)) .left && leb count (n .left)) || (usesOf (opOf (n .kind)) .right && leb count (n .right))
+
 abbrev pub badOperand : Table → Node → Bool
-badOperand t n =
-    (usesOf (opOf (n .kind)) .left && leb (t .«node_count») (n .left)) || (usesOf (opOf (n .kind)) .right && leb (t .«node_count») (n .right))
+badOperand t n = operandPast (t .«node_count») n
 
 -- the node's delay is above the longest
 abbrev pub tooLong : Table → Node → Bool
 tooLong t n = ltb maxDelay (delayOver (delays (t .nodes)) n)
 
+-- the rows of a node behind `count` nodes, with the delay d
+abbrev pub nodeRowsBy : ℕ → ℕ → Node → List Row
+nodeRowsBy count d n =
+    (ARGUMENT if badSignal n) ∷ (INTERVAL if badInterval (n .lo) (n .hi)) ∷ (OPERAND if operandPast count n) ∷ (FULL if leb maxNodes count) ∷
+    (LONG if ltb maxDelay d) ∷ []
+
 abbrev pub addNodeRows : Table → Node → List Row
-addNodeRows t n =
-    (ARGUMENT if badSignal n) ∷ (INTERVAL if badInterval (n .lo) (n .hi)) ∷ (OPERAND if badOperand t n) ∷ (FULL if leb maxNodes (t .«node_count»)) ∷
-    (LONG if tooLong t n) ∷ []
+addNodeRows t n = nodeRowsBy (t .«node_count») (delayOver (delays (t .nodes)) n) n
 
 -- ---- the tests of a rule
 -- a name of 0, or above the largest
 abbrev pub badName : Rule → Bool
 badName r = eqb (r .name) 0 || ltb maxName (r .name)
 
--- an earlier rule has the name
+-- one of the first `count` rules has the name
+abbrev pub usedBefore : List Rule → ℕ → Rule → Bool
+usedBefore rules count r = not (every (differs count (r .name)) 0 rules)
+
 abbrev pub nameUsed : Table → Rule → Bool
-nameUsed t r = not (every (differs (t .«rule_count») (r .name)) 0 (t .rules))
+nameUsed t r = usedBefore (t .rules) (t .«rule_count») r
 
 -- the rows; an operand of a rule is what it watches, which is to be the place of a node
+abbrev pub ruleRowsBy : ℕ → List Rule → ℕ → Rule → List Row
+ruleRowsBy nodes rules count r =
+    (ARGUMENT if badName r) ∷ (OPERAND if leb nodes (r .watched)) ∷ (FULL if leb maxRules count) ∷ (NAME if usedBefore rules count r) ∷ []
+
 abbrev pub addRuleRows : Table → Rule → List Row
-addRuleRows t r =
-    (ARGUMENT if badName r) ∷ (OPERAND if leb (t .«node_count») (r .watched)) ∷ (FULL if leb maxRules (t .«rule_count»)) ∷ (NAME if nameUsed t r) ∷ []
+addRuleRows t r = ruleRowsBy (t .«node_count») (t .rules) (t .«rule_count») r
 
 -- ---- the table with one more
 abbrev pub withNode : Table → Node → Table

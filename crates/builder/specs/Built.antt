@@ -1,12 +1,12 @@
 -- Tables by the nodes and rules that they hold, and tables that are built by adding.
-use Prim.Native.Nat.{_≤_}
+use Prim.Native.Nat.{ℕ, _≤_, _<_}
 use mathlib.Core.Path.{_≡_}
 use mathlib.Core.Bool.{false}
 use mathlib.Core.List.{List}
-use lib.ListN.{length}
+use lib.ListN.{length, getD}
 use Rattle.limits.specs.Limits.{maxNodes, maxRules}
 use Rattle.lists.specs.Sequence.{padded}
-use Rattle.table.specs.Nodes.{opOf, usesOf, noNode, noRule, noTable}
+use Rattle.table.specs.Nodes.{opOf, usesOf, noNode, noRule, noTable, delays, cap}
 use Rattle.table.specs.declared.Node.{Node}
 use Rattle.table.specs.declared.Rule.{Rule}
 use Rattle.table.specs.declared.Table.{Table}
@@ -35,3 +35,9 @@ pub data Built : Table → Type 0 where
   none : Built noTable
   node : {t : Table} (n : Node) → Built t → NodeForm n → addingNode t n .number ≡ 0 → Built (addingNode t n .table)
   rule : {t : Table} (r : Rule) → Built t → addingRule t r .number ≡ 0 → Built (addingRule t r .table)
+
+-- ds holds, in their places, the delays of the table's nodes, capped
+pub record Delays (t : Table) (ds : List ℕ) : Type 0 where
+  pub places : length ds ≡ maxNodes
+  pub node-places : length (t .nodes) ≡ maxNodes
+  pub node : (k : ℕ) → k < t .«node_count» → getD ds k 0 ≡ cap (getD (delays (t .nodes)) k 0)

@@ -9,7 +9,7 @@ use table::Rule;
 use table::Table;
 ghost use mathlib.Core.Path.{_≡_};
 ghost use Rattle.lists.specs.Choice.{first};
-ghost use Rattle.builder.specs.Adding.{badSignal, badOperand, tooLong, addNodeRows, badName, nameUsed, addRuleRows, addingNode, addingRule};
+ghost use Rattle.builder.specs.Adding.{badSignal, operandPast, nodeRowsBy, badName, usedBefore, ruleRowsBy, addingNode, addingRule};
 
 // The number of a refusal, and the table as it came; or 0, and the table with the node or the rule added.
 pub struct Added {
@@ -23,27 +23,20 @@ fn bad_signal(n: Node) -> bool
     (n.kind == 1) & (MAX_SIGNAL < n.arg)
 }
 
-fn bad_operand(t: Table, n: Node) -> bool
-    ensures { λ b. ⌜ b ≡ badOperand t n ⌝ }
+fn operand_past(count: usize, n: Node) -> bool
+    ensures { λ b. ⌜ b ≡ operandPast count n ⌝ }
 {
     let u = table::uses_of(n.kind);
-    (u.left & (t.node_count <= n.left as usize)) | (u.right & (t.node_count <= n.right as usize))
+    (u.left & (count <= n.left as usize)) | (u.right & (count <= n.right as usize))
 }
 
-fn too_long(t: Table, n: Node) -> bool
-    ensures { λ b. ⌜ b ≡ tooLong t n ⌝ }
+// The first row that fits a node behind `count` nodes, with the delay d, or 0.
+pub fn node_number(count: usize, d: u16, n: Node) -> u8
+    ensures { λ r. ⌜ r ≡ first (nodeRowsBy count d n) ⌝ }
 {
-    let d = table::delay_over(t, n);
-    MAX_DELAY < d
-}
-
-// The first row that fits a node, or 0.
-fn node_number(t: Table, n: Node) -> u8
-    ensures { λ r. ⌜ r ≡ first (addNodeRows t n) ⌝ }
-{
-    let long = lists::either(too_long(t, n), refusals::LONG, 0);
-    let full = lists::either(MAX_NODES <= t.node_count, refusals::FULL, long);
-    let operand = lists::either(bad_operand(t, n), refusals::OPERAND, full);
+    let long = lists::either(MAX_DELAY < d, refusals::LONG, 0);
+    let full = lists::either(MAX_NODES <= count, refusals::FULL, long);
+    let operand = lists::either(operand_past(count, n), refusals::OPERAND, full);
     let interval = lists::either(
         interval::bad_interval(n.lo, n.hi),
         refusals::INTERVAL,
@@ -56,7 +49,8 @@ fn node_number(t: Table, n: Node) -> u8
 pub fn add_node(t: Table, n: Node) -> Added
     ensures { λ r. ⌜ r ≡ addingNode t n ⌝ }
 {
-    let number = node_number(t, n);
+    let d = table::delay_over(t, n);
+    let number = node_number(t.node_count, d, n);
     if number != 0 {
         return Added { number, table: t };
     }
@@ -73,20 +67,19 @@ fn bad_name(r: Rule) -> bool
     (r.name == 0) | (MAX_NAME < r.name)
 }
 
-fn name_used(t: Table, r: Rule) -> bool
-    ensures { λ b. ⌜ b ≡ nameUsed t r ⌝ }
+fn name_used(rules: [Rule; MAX_RULES], count: usize, r: Rule) -> bool
+    ensures { λ b. ⌜ b ≡ usedBefore rules count r ⌝ }
 {
-    let rules = t.rules;
-    !table::is_new(rules, t.rule_count, r.name)
+    !table::is_new(rules, count, r.name)
 }
 
-// The first row that fits a rule, or 0.
-fn rule_number(t: Table, r: Rule) -> u8
-    ensures { λ n. ⌜ n ≡ first (addRuleRows t r) ⌝ }
+// The first row that fits a rule of a table with `nodes` nodes, behind `count` of these rules, or 0.
+pub fn rule_number(nodes: usize, rules: [Rule; MAX_RULES], count: usize, r: Rule) -> u8
+    ensures { λ n. ⌜ n ≡ first (ruleRowsBy nodes rules count r) ⌝ }
 {
-    let name = lists::either(name_used(t, r), refusals::NAME, 0);
-    let full = lists::either(MAX_RULES <= t.rule_count, refusals::FULL, name);
-    let operand = lists::either(t.node_count <= r.watched as usize, refusals::OPERAND, full);
+    let name = lists::either(name_used(rules, count, r), refusals::NAME, 0);
+    let full = lists::either(MAX_RULES <= count, refusals::FULL, name);
+    let operand = lists::either(nodes <= r.watched as usize, refusals::OPERAND, full);
     lists::either(bad_name(r), refusals::ARGUMENT, operand)
 }
 
@@ -94,7 +87,8 @@ fn rule_number(t: Table, r: Rule) -> u8
 pub fn add_rule(t: Table, r: Rule) -> Added
     ensures { λ a. ⌜ a ≡ addingRule t r ⌝ }
 {
-    let number = rule_number(t, r);
+    let rules = t.rules;
+    let number = rule_number(t.node_count, rules, t.rule_count, r);
     if number != 0 {
         return Added { number, table: t };
     }

@@ -1,15 +1,16 @@
 -- Tables to bytes and back: `read-written`, that a sound table is what its bytes hold. Assumes nothing.
 use Prim.Native.Nat.{ℕ, _+_, _-_, _*_, _/_, _%_, _≤_, _<_}
 use native.Mathlib.Omega.{arith}
-use mathlib.Core.Path.{_≡_, refl, sym, ap, _∙_}
+use mathlib.Core.Path.{_≡_, refl, sym, ap, subst, _∙_}
 use mathlib.Core.Bool.{true, false}
 use mathlib.Core.List.{List, _++_}
 use borrow.Author.Tests.{lt-ltb, le-ltb, le-leb, lt-leb, eq-eqb}
 use lib.Dec.{eqb}
-use lib.ListN.{length, getD, take, drop, length-append, length-drop, List·getD-append}
-use lib.Seq.{ext-getD, getD-take}
+use lib.ListN.{length, getD, take, drop, set, take-append-drop, length-append, length-drop, List·getD-append}
+use lib.Seq.{ext-getD, getD-take, take-at, drop-at, drop-drop}
 use Rattle.lists.specs.Sequence.{ticks, pairAt}
 use Rattle.lists.proofs.Tests.{_also_}
+use Rattle.lists.proofs.Loops.{Over, over-start, over-more}
 use Rattle.lists.proofs.Sequences.{length-ticks, getD-ticks, ticks-ext}
 use Rattle.table.specs.declared.Node.{Node}
 use Rattle.table.specs.declared.Rule.{Rule}
@@ -55,6 +56,93 @@ module _ (b c : List ℕ) (e : take 546 b ≡ take 546 c) where
   same-table h k =
       rw (le-leb 546 (length b) h, le-leb 546 (length c) k, same-padding, ticks-ext (nodeFrom b) (nodeFrom c) 64 same-node, ticks-ext (ruleFrom b) (ruleFrom c) 8 same-rule, same-byte 0 (omega arith), same-byte 1 (omega arith))
 
+-- ---- a table's bytes: byte k of node i, and of rule i
+module _ (t : Table) (i k j : ℕ) where
+  node-byte : i < 64 → k < 8 → j ≡ 2 + 8 * i + k → tableByte t j ≡ nodeByte (nodeAt t i) k
+  node-byte h l e =
+      let p : (j - 2) / 8 ≡ i = omega arith in
+      let q : (j - 2) % 8 ≡ k = omega arith in
+      simp (le-ltb j 2 (omega arith), lt-ltb j 514 (omega arith), p, q)
+
+  rule-byte : i < 8 → k < 4 → j ≡ 514 + 4 * i + k → tableByte t j ≡ ruleByte (ruleAt t i) k
+  rule-byte h l e =
+      let p : (j - 514) / 4 ≡ i = omega arith in
+      let q : (j - 514) % 4 ≡ k = omega arith in
+      simp (le-ltb j 2 (omega arith), le-ltb j 514 (omega arith), p, q)
+
+-- ---- `write_table`, four places at a time
+abbrev four : List ℕ → ℕ → ℕ → ℕ → ℕ → ℕ → List ℕ
+four out i a b c d = set (set (set (set out i a) (i + 1) b) (i + 2) c) (i + 3) d
+
+module _ (f : ℕ → ℕ) (xs : List ℕ) where
+  over-next : {out : List ℕ} {v : ℕ} (i k : ℕ) → i < length xs → v ≡ f i → i + 1 ≡ k → Over f xs out i → Over f xs (set out i v) k
+  over-next {out} {v} i k h e p o = subst (λ (n : ℕ). Over f xs (set out i v) n) p (over-more f xs out i h e o)
+
+  over-four : {out last : List ℕ} {a b c d : ℕ} (i k : ℕ) → i + 4 ≤ length xs → a ≡ f i → b ≡ f (i + 1) → c ≡ f (i + 2) → d ≡ f (i + 3)
+      → i + 4 ≡ k → last ≡ four out i a b c d → Over f xs out i → Over f xs last k
+  over-four {out} {last} {a} {b} {c} {d} i k h ea eb ec ed p e o =
+      let o₁ : Over f xs (set out i a) (i + 1) = over-more f xs out i (omega arith) ea o in
+      let o₂ : Over f xs (set (set out i a) (i + 1) b) (i + 2) = over-next (i + 1) (i + 2) (omega arith) eb (omega arith) o₁ in
+      let o₃ : Over f xs (set (set (set out i a) (i + 1) b) (i + 2) c) (i + 3) = over-next (i + 2) (i + 3) (omega arith) ec (omega arith) o₂ in
+      let o₄ : Over f xs (four out i a b c d) k = over-next (i + 3) k (omega arith) ed (omega arith) o₃ in
+      subst (λ (l : List ℕ). Over f xs l k) (sym e) o₄
+
+  -- the first i places hold f already
+  pub over-from : (i : ℕ) → take i xs ≡ ticks f i → Over f xs xs i
+  over-from i e = record { is = sym (take-append-drop i xs) ∙ ap (λ (l : List ℕ). l ++ drop i xs) e; long = refl }
+
+  pub over-take : {out : List ℕ} (i : ℕ) → Over f xs out i → take i out ≡ ticks f i
+  over-take i o = ap (take i) (o .is) ∙ take-at (ticks f i) (drop i xs) i (length-ticks f i)
+
+  -- m places more are written
+  pub over-on : {out last : List ℕ} (i m : ℕ) → i + m ≤ length xs → Over f xs out i → last ≡ ticks f (i + m) ++ drop (i + m) out
+      → Over f xs last (i + m)
+  over-on {out} {last} i m h o e =
+      let d : drop (i + m) out ≡ drop (i + m) xs =
+      ap (drop (i + m)) (o .is) ∙ sym (drop-drop m i (ticks f i ++ drop i xs))
+      ∙ ap (drop m) (drop-at (ticks f i) (drop i xs) i (length-ticks f i)) ∙ drop-drop m i xs in
+      let is : last ≡ ticks f (i + m) ++ drop (i + m) xs = e ∙ ap (λ (l : List ℕ). ticks f (i + m) ++ l) d in
+      record { is = is; long = ap length is ∙ length-append (ticks f (i + m)) (drop (i + m) xs) ∙ omega (arith, length-ticks f (i + m), length-drop (i + m) xs) }
+
+module _ (t : Table) (xs : List ℕ) (h : 546 ≤ length xs) where
+  abbrev counted : List ℕ
+  counted = set (set xs 0 (t .«node_count» % 256)) 1 (t .«rule_count» % 256)
+
+  pub counts-put : Over (tableByte t) xs counted 2
+  counts-put = over-more _ xs _ 1 (omega arith) refl (over-more _ xs xs 0 (omega arith) refl (over-start _ xs))
+
+  pub nodes-put : {out : List ℕ} → out ≡ ticks (tableByte t) 514 ++ drop 514 counted → Over (tableByte t) xs out 514
+  nodes-put e = over-on (tableByte t) xs 2 512 (omega arith) counts-put e
+
+  pub rules-put : {out last : List ℕ} → out ≡ ticks (tableByte t) 514 ++ drop 514 counted → last ≡ bytesHolding t ++ drop 546 out
+      → Over (tableByte t) xs last 546
+  rules-put e k = over-on (tableByte t) xs 514 32 h (nodes-put e) k
+
+  module _ (i : ℕ) {out last : List ℕ} where
+    pub node-put : {mid : List ℕ} → i < 64 → let b : ℕ → ℕ = nodeByte (nodeAt t i) in
+        mid ≡ four out (2 + 8 * i) (b 0) (b 1) (b 2) (b 3) → last ≡ four mid (2 + 8 * i + 4) (b 4) (b 5) (b 6) (b 7)
+        → Over (tableByte t) xs out (2 + 8 * i) → Over (tableByte t) xs last (2 + 8 * (i + 1))
+    node-put {mid} l e₁ e₂ o =
+        let j : ℕ = 2 + 8 * i in
+        let m : Over (tableByte t) xs mid (j + 4) =
+        over-four (tableByte t) xs j (j + 4) (omega arith) (byte 0 j (omega arith) (omega arith)) (byte 1 (j + 1) (omega arith) refl)
+        (byte 2 (j + 2) (omega arith) refl) (byte 3 (j + 3) (omega arith) refl) refl e₁ o in
+        over-four (tableByte t) xs (j + 4) (2 + 8 * (i + 1)) (omega arith) (byte 4 (j + 4) (omega arith) refl) (byte 5 (j + 4 + 1) (omega arith) (omega arith))
+        (byte 6 (j + 4 + 2) (omega arith) (omega arith)) (byte 7 (j + 4 + 3) (omega arith) (omega arith)) (omega arith) e₂ m
+      where
+        byte : (k j : ℕ) → k < 8 → j ≡ 2 + 8 * i + k → nodeByte (nodeAt t i) k ≡ tableByte t j
+        byte k j h e = sym (node-byte t i k j l h e)
+
+    pub rule-put : i < 8 → let b : ℕ → ℕ = ruleByte (ruleAt t i) in last ≡ four out (514 + 4 * i) (b 0) (b 1) (b 2) (b 3)
+        → Over (tableByte t) xs out (514 + 4 * i) → Over (tableByte t) xs last (514 + 4 * (i + 1))
+    rule-put l e o =
+        let j : ℕ = 514 + 4 * i in
+        over-four (tableByte t) xs j (514 + 4 * (i + 1)) (omega arith) (byte 0 j (omega arith) (omega arith)) (byte 1 (j + 1) (omega arith) refl)
+        (byte 2 (j + 2) (omega arith) refl) (byte 3 (j + 3) (omega arith) refl) (omega arith) e o
+      where
+        byte : (k j : ℕ) → k < 4 → j ≡ 514 + 4 * i + k → ruleByte (ruleAt t i) k ≡ tableByte t j
+        byte k j h e = sym (rule-byte t i k j l h e)
+
 -- ---- a sound table's bytes
 module _ (t : Table) (rest : List ℕ) where
   abbrev bytes : List ℕ
@@ -63,18 +151,11 @@ module _ (t : Table) (rest : List ℕ) where
   at : (j : ℕ) → j < 546 → byteAt bytes j ≡ tableByte t j
   at j h = List·getD-append (bytesHolding t) rest 0 j (omega (arith, length-ticks (tableByte t) 546)) ∙ getD-ticks (tableByte t) 546 j 0 h
 
-  -- byte k of node i, and of rule i
   in-node : (i k j : ℕ) → i < 64 → k < 8 → j ≡ 2 + 8 * i + k → byteAt bytes j ≡ nodeByte (nodeAt t i) k
-  in-node i k j h l e =
-      let p : (j - 2) / 8 ≡ i = omega arith in
-      let q : (j - 2) % 8 ≡ k = omega arith in
-      at j (omega arith) ∙ simp (le-ltb j 2 (omega arith), lt-ltb j 514 (omega arith), p, q)
+  in-node i k j h l e = at j (omega arith) ∙ node-byte t i k j h l e
 
   in-rule : (i k j : ℕ) → i < 8 → k < 4 → j ≡ 514 + 4 * i + k → byteAt bytes j ≡ ruleByte (ruleAt t i) k
-  in-rule i k j h l e =
-      let p : (j - 514) / 4 ≡ i = omega arith in
-      let q : (j - 514) % 4 ≡ k = omega arith in
-      at j (omega arith) ∙ simp (le-ltb j 2 (omega arith), le-ltb j 514 (omega arith), p, q)
+  in-rule i k j h l e = at j (omega arith) ∙ rule-byte t i k j h l e
 
   node-back : (i : ℕ) → i < 64 → nodeFrom bytes i ≡ nodeAt t i
   node-back i h =

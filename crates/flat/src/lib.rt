@@ -1,10 +1,11 @@
 // Tables and sessions as bytes, for callers in other languages: a table is 546 bytes, a session 558.
 ghost use mathlib.Core.Path.{_≡_};
 ghost use Prim.Native.Nat.{_+_, _*_, _≤_, _<_};
-ghost use lib.ListN.{length};
+ghost use mathlib.Core.List.{_++_};
+ghost use lib.ListN.{length, take, drop, set};
 ghost use Rattle.limits.specs.Limits.{maxNodes, maxRules, tableBytes, sessionBytes};
 ghost use Rattle.lists.specs.Sequence.{ticks, pairAt};
-ghost use Rattle.flat.specs.Flat.{nodeByte, ruleByte, tableByte, written, nodeFrom, ruleFrom, unpadded, tableFrom};
+ghost use Rattle.flat.specs.Flat.{tableByte, bytesHolding, written, nodeFrom, ruleFrom, unpadded, tableFrom};
 ghost use Rattle.flat.specs.Sessions.{fourAt, putFour, sessionFrom, sessionWritten, renewed};
 use limits::MAX_NODES;
 use limits::MAX_RULES;
@@ -138,48 +139,60 @@ pub fn read_table(b: &[u8]) -> Table
     }
 }
 
-fn node_byte(n: Node, k: usize) -> u8
-    requires { ⌜ k < 8 ⌝ }
-    ensures { λ r. ⌜ r ≡ nodeByte n k ⌝ }
+// Four bytes, from place `at` on.
+fn put_bytes(out: &mut [u8], at: usize, a: u8, b: u8, c: u8, d: u8)
+    requires { ⌜ at + 4 ≤ length (now out) ⌝ }
+    ensures { λ _. ⌜ now (out .exit) ≡ set (set (set (set (now (out .entry)) at a) (at + 1) b) (at + 2) c) (at + 3) d ⌝ }
 {
-    let bytes = [
-        n.kind,
-        n.arg,
-        (n.lo % 256) as u8,
-        (n.lo / 256) as u8,
-        (n.hi % 256) as u8,
-        (n.hi / 256) as u8,
-        n.left,
-        n.right,
-    ];
-    bytes[k]
+    out[at] = a;
+    out[at + 1] = b;
+    out[at + 2] = c;
+    out[at + 3] = d;
 }
 
-fn rule_byte(r: Rule, k: usize) -> u8
-    requires { ⌜ k < 4 ⌝ }
-    ensures { λ b. ⌜ b ≡ ruleByte r k ⌝ }
+// The nodes, behind the counts.
+fn put_nodes(t: Table, out: &mut [u8])
+    requires { ⌜ (tableBytes ≤ length (now out)) × (take 2 (now out) ≡ ticks (tableByte t) 2) ⌝ }
+    ensures { λ _. ⌜ now (out .exit) ≡ ticks (tableByte t) 514 ++ drop 514 (now (out .entry)) ⌝ }
 {
-    let bytes = [(r.name % 256) as u8, (r.name / 256) as u8, r.watched, 0];
-    bytes[k]
+    for i in 0..MAX_NODES {
+        let n = t.nodes[i];
+        let at = 2 + 8 * i;
+        put_bytes(
+            out,
+            at,
+            n.kind,
+            n.arg,
+            (n.lo % 256) as u8,
+            (n.lo / 256) as u8,
+        );
+        put_bytes(
+            out,
+            at + 4,
+            (n.hi % 256) as u8,
+            (n.hi / 256) as u8,
+            n.left,
+            n.right,
+        );
+    }
 }
 
-// The byte of a table at place j.
-fn table_byte(t: Table, j: usize) -> u8
-    requires { ⌜ j < tableBytes ⌝ }
-    ensures { λ r. ⌜ r ≡ tableByte t j ⌝ }
+// The rules, behind the counts and the nodes.
+fn put_rules(t: Table, out: &mut [u8])
+    requires { ⌜ (tableBytes ≤ length (now out)) × (take 514 (now out) ≡ ticks (tableByte t) 514) ⌝ }
+    ensures { λ _. ⌜ now (out .exit) ≡ bytesHolding t ++ drop tableBytes (now (out .entry)) ⌝ }
 {
-    if j < 2 {
-        let counts = [(t.node_count % 256) as u8, (t.rule_count % 256) as u8];
-        return counts[j];
+    for i in 0..MAX_RULES {
+        let r = t.rules[i];
+        put_bytes(
+            out,
+            514 + 4 * i,
+            (r.name % 256) as u8,
+            (r.name / 256) as u8,
+            r.watched,
+            0,
+        );
     }
-    if j < 514 {
-        let k = j - 2;
-        let at = k / 8;
-        return node_byte(t.nodes[at], k % 8);
-    }
-    let k = j - 514;
-    let at = k / 4;
-    rule_byte(t.rules[at], k % 4)
 }
 
 // The table's bytes, into the first places of a buffer that has room for them.
@@ -189,10 +202,10 @@ pub fn write_table(t: Table, out: &mut [u8])
     if out.len() < TABLE_BYTES {
         return;
     }
-    for j in 0..TABLE_BYTES {
-        let x = table_byte(t, j);
-        out[j] = x;
-    }
+    out[0] = (t.node_count % 256) as u8;
+    out[1] = (t.rule_count % 256) as u8;
+    put_nodes(t, out);
+    put_rules(t, out);
 }
 
 // ---- sessions

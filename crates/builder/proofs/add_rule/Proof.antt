@@ -10,19 +10,19 @@ use Rattle.builder.proofs.add_rule.Tie as tie
 returns : tie.Need-returns
 unfolding addingRule
 returns c =
-    let a = c .before .before .args in
+    let a = c .before .before .before .args in
     refused-is (a .t) (withRule (a .t) (a .r)) (c .before .rule-number .ensures) (c .if1 .taken)
 
 -- the free place
-below : (c : tie.Else1) → c .before .before .args .t .«rule_count» < 8
+below : (c : tie.Else1) → c .before .before .before .args .t .«rule_count» < 8
 below c =
-    let a = c .before .before .args in
+    let a = c .before .before .before .args in
     rule-place (a .t) (a .r) (c .before .rule-number .ensures) (c .if1 .left)
 
 returns-2 : tie.Need-returns-2
 unfolding addingRule
 returns-2 c =
-    let a = c .before .before .args in
+    let a = c .before .before .before .args in
     accepted-is (a .t) (withRule (a .t) (a .r)) (c .before .rule-number .ensures) (c .if1 .left)
 
 pub add-rule-spec : {M : Type 1} → statement M
