@@ -12,9 +12,8 @@ use Rattle.lists.specs.Choice.{someFits}
 use Rattle.lists.proofs.Rows.{first-within}
 use Rattle.lists.proofs.Tests.{true-or-false}
 use Rattle.table.specs.declared.Table.{Table}
+use Rattle.table.specs.Sound.{Sound}
 use Rattle.table.proofs.Soundness.{sound-iff}
-use Rattle.book.specs.Reading.{reading}
-use Rattle.book.proofs.Sound.{accepted-sound}
 use Rattle.simplify.specs.Promise.{Promised, Simpler}
 use Rattle.session.specs.declared.Session.{Session}
 use Rattle.session.specs.declared.Answer.{Answer}
@@ -29,9 +28,11 @@ use Rattle.juntreak.specs.Answers.{counted, Called}
 use Rattle.acts.specs.Claim.{Claim}
 use Rattle.mission.specs.Calls.{Meets, statesFed, verdictsGiven}
 use Rattle.mission.specs.Calls as calls
+use Rattle.mission.specs.Mission.{Source, book, text, readNumber, readTable}
 use Rattle.mission.specs.Mission as mission
+use Rattle.mission.proofs.Sources.{source-sound}
 use Rattle.mission.proofs.ThirdDemand.{third-demand}
-use Rattle.foreign.specs.Demand.{Lent, Call, feed, close, lent, Contract, answeredNumber, actOf, asCall, Calls, begin, accepted, refused, Start, verdictOf, startDelay, Untouched, ForeignDemand}
+use Rattle.foreign.specs.Demand.{Lent, Call, feed, close, lent, Contract, answeredNumber, actOf, asCall, Calls, begin, accepted, refused, readAnswer, Start, verdictOf, startDelay, Untouched, ForeignDemand}
 
 -- ---- the bytes after a call
 -- the bytes hold the session that the answer hands back
@@ -138,27 +139,35 @@ module _ (first start : List ℕ) where
   listed (refused {cs = cs} {b = b} {h = h} {ended = ended} c a k n) = listed-refused cs b h ended c (listed a) k n
 
 -- ---- the start
+-- the answer 0 is the number 0
+number-zero : (s : Source) → readAnswer s ≡ 0 → readNumber s ≡ 0
+number-zero (book b) e = omega (arith, e)
+number-zero (text x) e = omega (arith, e)
+
 module _ (m : Start) where
   abbrev t : Table
-  t = reading (m .book) .table
+  t = readTable (m .source)
 
   abbrev u : Table
   u = m .simplified .answer .table
 
-  accepts : reading (m .book) .number ≡ 0
-  accepts = omega (arith, m .read)
+  accepts : readNumber (m .source) ≡ 0
+  accepts = number-zero (m .source) (m .read)
+
+  sound : Sound t
+  sound = source-sound (m .source) (m .bytes) accepts
 
   table-is : m .table ≡ written t (m .old-table)
-  table-is = m .was-read ∙ rw (eq-eqb (reading (m .book) .number) 0 accepts)
+  table-is = m .was-read ∙ rw (eq-eqb (readNumber (m .source)) 0 accepts)
 
   held-table : tableFrom (m .table) ≡ t
-  held-table = ap tableFrom table-is ∙ table-back t (m .old-table) (omega (arith, m .table-size)) (accepted-sound (m .book) (m .bytes) accepts)
+  held-table = ap tableFrom table-is ∙ table-back t (m .old-table) (omega (arith, m .table-size)) sound
 
   promised : Promised t (m .simplified .answer)
   promised = subst (λ (x : Table). Promised x (m .simplified .answer)) held-table (m .simplified .promised)
 
   better : Simpler t u
-  better = promised .accepted (sound-iff t .1 (accepted-sound (m .book) (m .bytes) accepts)) .1
+  better = promised .accepted (sound-iff t .1 sound) .1
 
   simple-is : m .simple ≡ written u (m .table)
   simple-is = m .simplified .bytes ∙ rw (eq-eqb (m .simplified .answer .number) 0 (sym (m .simplified .told)))
@@ -173,7 +182,7 @@ module _ (m : Start) where
 
   abbrev start-is : mission.Start
   start-is = record {
-    book = m .book;
+    source = m .source;
     read = accepts;
     simplified = m .simplified .answer;
     promised = promised;

@@ -1,5 +1,6 @@
 -- The third demand for C programs: they hold a session as bytes, and get an answer as one number. A list of calls of juntreak_feed and
--- juntreak_close, on a session that juntreak_read, juntreak_simplify and juntreak_open led to, is a list of calls of crate mission.
+-- juntreak_close, on a session that juntreak_read or juntreak_read_text, juntreak_simplify and juntreak_open led to, is a list of calls
+-- of crate mission.
 use Prim.Native.Nat.{ℕ, _/_, _%_}
 use mathlib.Core.Path.{_≡_}
 use mathlib.Core.Logic.{_↔_}
@@ -10,15 +11,16 @@ use Rattle.limits.specs.Limits.{tableBytes, sessionBytes}
 use Rattle.lists.specs.Choice.{someFits}
 use Rattle.mltl.specs.Mltl.{holds, delay}
 use Rattle.table.specs.Nodes.{watchedFormula}
-use Rattle.book.specs.Entries.{Bytes}
 use Rattle.book.specs.Reading.{reading, codeOf}
+use Rattle.text.specs.Typing.{typed}
 use Rattle.session.specs.Session.{opening, feeding, closing}
 use Rattle.flat.specs.Flat.{tableFrom, written}
 use Rattle.flat.specs.Sessions.{sessionFrom, sessionWritten}
-use Rattle.juntreak.specs.Answers.{leaves, Simplifies, Called}
+use Rattle.juntreak.specs.Answers.{leaves, textAnswer, Simplifies, Called}
 use Rattle.acts.specs.Claim.{Claim}
 use Rattle.mission.specs.Calls.{statesFed, verdictsGiven, Meets}
 use Rattle.mission.specs.Calls as mission
+use Rattle.mission.specs.Mission.{Source, book, text, readNumber, readTable, OfBytes}
 
 -- ---- one call
 -- what a call was given: the session's 558 bytes, history, scratch and out; its answer, and what it left in these
@@ -86,16 +88,22 @@ pub data Calls (first start : List ℕ) : List Call → List ℕ → List ℕ �
   refused : {cs : List Call} {b h : List ℕ} {ended : Bool} (c : Call) → Calls first start cs b h ended → Contract c → (answeredNumber c ≡ 0 → ⊥)
       → Calls first start (cs ++ (c ∷ [])) b h ended
 
--- ---- the start: three calls that answered 0, as their contracts say; what a buffer held before is `old`
+-- ---- the start
+-- what juntreak_read answers for a book, and juntreak_read_text for a text
+abbrev pub readAnswer : Source → ℕ
+readAnswer (book b) = codeOf (reading b)
+readAnswer (text x) = textAnswer (typed x)
+
+-- three calls that answered 0, as their contracts say; what a buffer held before is `old`
 pub record Start : Type 0 where
-  pub book : List ℕ
-  pub bytes : Bytes book
-  -- juntreak_read
-  pub read : codeOf (reading book) ≡ 0
+  pub source : Source
+  pub bytes : OfBytes source
+  -- juntreak_read or juntreak_read_text
+  pub read : readAnswer source ≡ 0
   pub old-table : List ℕ
   pub table-size : length old-table ≡ tableBytes
   pub table : List ℕ
-  pub was-read : table ≡ leaves (reading book .number) (written (reading book .table) old-table) old-table
+  pub was-read : table ≡ leaves (readNumber source) (written (readTable source) old-table) old-table
   -- juntreak_simplify
   pub simple : List ℕ
   pub simplified : Simplifies table 0 simple
@@ -109,9 +117,9 @@ pub record Start : Type 0 where
   -- any history
   pub history : List ℕ
 
--- the verdict of the rule as it stood in the book, and D, the delay of the rule in the simplified table
+-- the verdict of the rule as it stood in the book or in the text, and D, the delay of the rule in the simplified table
 abbrev pub verdictOf : Start → List ℕ → ℕ → Bool
-verdictOf m = holds (watchedFormula (reading (m .book) .table) (m .rule))
+verdictOf m = holds (watchedFormula (readTable (m .source)) (m .rule))
 
 abbrev pub startDelay : Start → ℕ
 startDelay m = delay (watchedFormula (tableFrom (m .simple)) (m .rule))

@@ -1,11 +1,12 @@
 -- The answers of the C interface as one number each, and what its calls leave in the bytes of tables and sessions.
-use Prim.Native.Nat.{ℕ, _+_, _*_}
+use Prim.Native.Nat.{ℕ, _+_, _*_, min}
 use mathlib.Core.Path.{_≡_}
 use mathlib.Core.List.{List}
 use lib.Dec.{eqb}
 use Rattle.lists.specs.Choice.{pick}
 use Rattle.interval.specs.declared.Splitting.{Splitting}
 use Rattle.table.specs.declared.RuleDelay.{RuleDelay}
+use Rattle.text.specs.declared.Typed.{Typed}
 use Rattle.flat.specs.Flat.{tableFrom, written}
 use Rattle.flat.specs.Sessions.{renewed}
 use Rattle.simplify.specs.declared.Simplified.{Simplified}
@@ -18,6 +19,14 @@ use Rattle.session.specs.Session.{Effect}
 -- a buffer after a call with this number: what an accepted call writes there, and as it was where the call is refused
 abbrev pub leaves : ℕ → List ℕ → List ℕ → List ℕ
 leaves number new old = pick (eqb number 0) new old
+
+-- the largest place or line that an answer holds, 2^56 - 1: no machine has a text so long
+abbrev pub maxPlace : ℕ
+maxPlace = 72057594037927935
+
+-- the number of a refusal and, above it, its place or line
+abbrev pub textAnswer : Typed → ℕ
+textAnswer x = x .number + 256 * min (x .place) maxPlace
 
 -- the number of a refusal and, above it, the delay
 abbrev pub delayAnswer : RuleDelay → ℕ

@@ -4,12 +4,13 @@ ghost use mathlib.Core.Path.{_≡_};
 ghost use Rattle.interval.specs.Parts.{splitting};
 ghost use Rattle.table.specs.Sound.{ruleDelay};
 ghost use Rattle.book.specs.Reading.{reading, codeOf};
+ghost use Rattle.text.specs.Typing.{typed};
 ghost use Rattle.verdict.specs.Verdict.{Answered};
 ghost use Rattle.early.specs.Early.{toldBy, earlyTold, earlyScratch};
 ghost use Rattle.session.specs.Session.{opening, feeding, closing};
 ghost use Rattle.flat.specs.Flat.{tableFrom, written};
 ghost use Rattle.flat.specs.Sessions.{sessionFrom, sessionWritten};
-ghost use Rattle.juntreak.specs.Answers.{leaves, delayAnswer, splitAnswer, earlyAnswer, Simplifies, counted, Called};
+ghost use Rattle.juntreak.specs.Answers.{leaves, textAnswer, delayAnswer, splitAnswer, earlyAnswer, Simplifies, counted, Called};
 use book::Reading;
 use early::Decision;
 use limits::MAX_PARTS;
@@ -18,6 +19,7 @@ use limits::TABLE_BYTES;
 use session::Answer;
 use session::Session;
 use table::Table;
+use text::Typed;
 
 // ---- what an accepted call writes
 
@@ -54,7 +56,7 @@ fn put_count(r: Answer, b: &mut [u8; SESSION_BYTES])
     }
 }
 
-// ---- books and tables
+// ---- books, typed rules and tables
 
 fn code_of(r: Reading) -> u32
     ensures { λ n. ⌜ n ≡ codeOf r ⌝ }
@@ -78,6 +80,28 @@ pub extern "C" fn juntreak_read(book: &[u8], table: &mut [u8; TABLE_BYTES]) -> u
     let got = book::read(book);
     put_table(got.number, got.table, table);
     code_of(got)
+}
+
+// The largest place or line that an answer holds, 2^56 - 1: no machine has a text so long.
+const MAX_PLACE: usize = 72057594037927935;
+
+fn text_code(r: Typed) -> u64
+    ensures { λ n. ⌜ n ≡ textAnswer r ⌝ }
+{
+    if r.place > MAX_PLACE {
+        return r.number as u64 + 256 * (MAX_PLACE as u64);
+    }
+    r.number as u64 + 256 * (r.place as u64)
+}
+
+// 0 for typed rules that are accepted, or the number of the refusal and 256 times its place or line; with the table of those accepted.
+#[no_mangle]
+pub extern "C" fn juntreak_read_text(text: &[u8], table: &mut [u8; TABLE_BYTES]) -> u64
+    ensures { λ r. ⌜ (r ≡ textAnswer (typed (now (text .entry)))) × (now (table .exit) ≡ leaves (typed (now (text .entry)) .number) (written (typed (now (text .entry)) .table) (now (table .entry))) (now (table .entry))) ⌝ }
+{
+    let answer = text::read(text);
+    put_table(answer.number, answer.table, table);
+    text_code(answer)
 }
 
 // The delay of a rule of the table.

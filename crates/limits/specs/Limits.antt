@@ -34,6 +34,11 @@ maxRecords = 255
 abbrev pub bookBytes : ℕ
 bookBytes = maxRecords * recordBytes
 
+-- ---- typed rules
+-- the most brackets that may be open at once
+abbrev pub maxDepth : ℕ
+maxDepth = 32
+
 -- ---- traces
 abbrev pub maxState : ℕ
 maxState = 4294967295

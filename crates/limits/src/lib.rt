@@ -25,6 +25,11 @@ pub const MAX_RECORDS: usize = 255;
 
 pub const BOOK_BYTES: usize = MAX_RECORDS * RECORD_BYTES;
 
+// ---- typed rules
+
+// The most brackets that may be open at once.
+pub const MAX_DEPTH: usize = 32;
+
 // ---- traces
 
 pub const MAX_STATE: u64 = 4294967295;

@@ -1,4 +1,4 @@
--- An early answer is the verdict of the rule as it stood in the book. Assumes nothing.
+-- An early answer is the verdict of the rule as it stood in the book or in the text. Assumes nothing.
 use Prim.Native.Nat.{ℕ, _<_}
 use native.Mathlib.Omega.{arith}
 use mathlib.Core.Path.{_≡_, sym, _∙_}

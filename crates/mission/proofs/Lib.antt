@@ -6,7 +6,11 @@ mod World
 mod Seen
 -- lists of calls: the claim, the session, beginnings
 pub mod Listed
+-- what an accepted read yields is sound
+pub mod Sources
 -- the third demand
 pub mod ThirdDemand
 -- what is known while a session runs
 pub mod Early
+-- the rule that a session watches is the formula of its line
+pub mod Typed

@@ -1,4 +1,4 @@
--- The third demand: every list of calls on a session over a book that was read and simplified. Assumes nothing.
+-- The third demand: every list of calls on a session over a book or a text that was read, and simplified. Assumes nothing.
 use Prim.Native.Nat.{ℕ, _<_}
 use native.Mathlib.Omega.{arith}
 use mathlib.Core.Path.{_≡_, refl, sym, ap, _∙_}
@@ -10,7 +10,6 @@ use Rattle.lists.proofs.Rows.{refused-exactly}
 use Rattle.lists.proofs.Tests.{true-or-false}
 use Rattle.table.specs.declared.Table.{Table}
 use Rattle.table.specs.Sound.{isSound, tableRows, ruleRows}
-use Rattle.book.specs.Reading.{reading}
 use Rattle.simplify.specs.Promise.{Promised, Simpler}
 use Rattle.simplify.specs.declared.Simplified.{Simplified}
 use Rattle.session.specs.declared.Session.{Session}
@@ -18,7 +17,7 @@ use Rattle.session.specs.Session.{Effect, withSeen, opening}
 use Rattle.session.proofs.Effects.{opened-is, opened-rule, feed-number, close-number}
 use Rattle.acts.specs.Claim.{Claim}
 use Rattle.mission.specs.Calls.{Act, feed, close, effectOf, rowsOf, Call, Meets, numberOf, Calls, statesFed, verdictsGiven}
-use Rattle.mission.specs.Mission.{Start, sessionOf, startDelay, verdictOf, ThirdDemand}
+use Rattle.mission.specs.Mission.{readTable, Start, sessionOf, startDelay, verdictOf, ThirdDemand}
 use Rattle.mission.proofs.World.{Watch, Made}
 use Rattle.mission.proofs.Seen.{opened}
 use Rattle.mission.proofs.Listed.{seenBy, come-session, come-claim, beginning}
@@ -31,7 +30,7 @@ simpler t r p e =
 
 module _ (m : Start) where
   abbrev t : Table
-  t = reading (m .book) .table
+  t = readTable (m .source)
 
   abbrev u : Table
   u = m .simplified .table

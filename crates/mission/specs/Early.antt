@@ -1,4 +1,5 @@
--- What is known while a session runs: an answer of yes or no on the table that it watches is the verdict of the rule as it stood in the book.
+-- What is known while a session runs: an answer of yes or no on the table that it watches is the verdict of the rule as it stood in the book
+-- or in the text.
 use Prim.Native.Nat.{ℕ}
 use mathlib.Core.Path.{_≡_}
 use mathlib.Core.Bool.{Bool}

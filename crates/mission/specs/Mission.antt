@@ -1,5 +1,5 @@
--- The third demand: every list of calls on a session over a book that was read and simplified. docs/ARCHITECTURE.md, 'Reading the third
--- demand', leads from document 01's sentences to these lines, and from each excluded program to the line that excludes it.
+-- The third demand: every list of calls on a session over a book or a text that was read, and simplified. docs/ARCHITECTURE.md, 'Reading
+-- the third demand', leads from document 01's sentences to these lines, and from each excluded program to the line that excludes it.
 use Prim.Native.Nat.{ℕ}
 use mathlib.Core.Path.{_≡_}
 use mathlib.Core.Logic.{_↔_}
@@ -11,7 +11,9 @@ use Rattle.mltl.specs.Mltl.{holds, delay}
 use Rattle.table.specs.declared.Table.{Table}
 use Rattle.table.specs.Nodes.{watchedFormula}
 use Rattle.table.specs.Sound.{isSound, tableRows, ruleRows}
+use Rattle.book.specs.Entries.{Bytes}
 use Rattle.book.specs.Reading.{reading}
+use Rattle.text.specs.Typing.{typed}
 use Rattle.simplify.specs.Promise.{Promised}
 use Rattle.simplify.specs.declared.Simplified.{Simplified}
 use Rattle.session.specs.declared.Session.{Session}
@@ -19,12 +21,32 @@ use Rattle.session.specs.Session.{opening}
 use Rattle.acts.specs.Claim.{Claim}
 use Rattle.mission.specs.Calls.{Call, Meets, numberOf, rowsOf, Calls, statesFed, verdictsGiven}
 
--- An accepted read of a book, the simplifier's accepted answer for its table, and an accepted open of a rule; any history.
+-- ---- the start
+-- where rules come from: a book, or typed lines
+pub data Source : Type 0 where
+  book : List ℕ → Source
+  text : List ℕ → Source
+
+-- the number that reading it answers, and the table that it yields
+abbrev pub readNumber : Source → ℕ
+readNumber (book b) = reading b .number
+readNumber (text x) = typed x .number
+
+abbrev pub readTable : Source → Table
+readTable (book b) = reading b .table
+readTable (text x) = typed x .table
+
+-- the elements of a book are bytes; of a text nothing is asked
+abbrev pub OfBytes : Source → Type 0
+OfBytes (book b) = Bytes b
+OfBytes (text x) = Unit {0}
+
+-- An accepted read of a book or of a text, the simplifier's accepted answer for its table, and an accepted open of a rule; any history.
 pub record Start : Type 0 where
-  pub book : List ℕ
-  pub read : reading book .number ≡ 0
+  pub source : Source
+  pub read : readNumber source ≡ 0
   pub simplified : Simplified
-  pub promised : Promised (reading book .table) simplified
+  pub promised : Promised (readTable source) simplified
   pub accepted : simplified .number ≡ 0
   pub rule : ℕ
   pub opened : opening (simplified .table) rule .number ≡ 0
@@ -38,10 +60,11 @@ sessionOf m = opening (m .simplified .table) (m .rule) .session
 abbrev pub startDelay : Start → ℕ
 startDelay m = delay (watchedFormula (m .simplified .table) (m .rule))
 
--- the verdict of the rule as it stood in the book, before simplifying
+-- the verdict of the rule as it stood in the book or in the text, before simplifying
 abbrev pub verdictOf : Start → List ℕ → ℕ → Bool
-verdictOf m = holds (watchedFormula (reading (m .book) .table) (m .rule))
+verdictOf m = holds (watchedFormula (readTable (m .source)) (m .rule))
 
+-- ---- beginnings
 -- The first calls of such a list are such a list, with the session and the history that they have come to.
 pub record Beginning (first : Session) (start : List ℕ) (cs : List Call) : Type 0 where
   pub session : Session

@@ -1,7 +1,7 @@
 -- The numbers of the refusals of documents 01 and 02.
 use Prim.Native.Nat.{ℕ}
 
--- ---- books, told with a record
+-- ---- books, told with a record; 5, 6 and 8 to 11 also of typed rules, told with a line
 -- a length that is not 12 times 1 to 255
 abbrev pub LENGTH : ℕ
 LENGTH = 1
@@ -18,7 +18,7 @@ LINK = 3
 abbrev pub FORM : ℕ
 FORM = 4
 
--- a signal above 31, or a name of 0
+-- a signal above 31, or a name of 0; of typed rules also a name above 255
 abbrev pub ARGUMENT : ℕ
 ARGUMENT = 5
 
@@ -42,9 +42,18 @@ LONG = 9
 abbrev pub NAME : ℕ
 NAME = 10
 
--- a chain that ended without a rule
+-- a chain that ended without a rule, or an empty text
 abbrev pub RULELESS : ℕ
 RULELESS = 11
+
+-- ---- typed rules, told with a place in the text
+-- a byte, or the end of the text, that no line has there
+abbrev pub SYNTAX : ℕ
+SYNTAX = 32
+
+-- an opening bracket that is fit there but for being 33 deep
+abbrev pub DEEP : ℕ
+DEEP = 33
 
 -- ---- tables and sessions
 -- a table that is not sound, or a session whose rule number is not below its rule count

@@ -24,6 +24,12 @@ pub const NAME: u8 = 10;
 
 pub const RULELESS: u8 = 11;
 
+// ---- typed rules
+
+pub const SYNTAX: u8 = 32;
+
+pub const DEEP: u8 = 33;
+
 // ---- tables and sessions
 
 pub const UNSOUND: u8 = 25;

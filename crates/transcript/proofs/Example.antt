@@ -11,6 +11,7 @@ use Rattle.simplify.specs.declared.Simplified.{Simplified}
 use Rattle.simplify.specs.Promise.{Promised}
 use Rattle.session.specs.Session.{opening}
 use Rattle.mission.specs.Mission.{Start}
+use Rattle.mission.specs.Mission as mission
 use Rattle.lines.specs.Lines.{lineAfter}
 use Rattle.rows.specs.Rows.{placesFrom, decimal, row, rowsFrom}
 use Rattle.transcript.specs.Printed.{printed}
@@ -38,7 +39,7 @@ output =
 module _ (read : reading book .number ≡ 0) (simplified : Simplified) (promised : Promised (reading book .table) simplified) (accepted : simplified .number ≡ 0)
     (opened : opening (simplified .table) 0 .number ≡ 0) (history : List ℕ) where
   abbrev start : Start
-  start = record { book = book; read = read; simplified = simplified; promised = promised; accepted = accepted; rule = 0; opened = opened; history = history }
+  start = record { source = mission.book book; read = read; simplified = simplified; promised = promised; accepted = accepted; rule = 0; opened = opened; history = history }
 
   pub worked-example : printed start input ≡ output
   unfolding bit printed reading headFault fault along usesIn chain every delay holds someFrom someTick everyTick eventually until opposite always release lineAfter placesFrom decimal row rowsFrom

@@ -10,10 +10,9 @@ use Rattle.refusals.specs.Numbers.{SEEN}
 use Rattle.lists.specs.Choice.{pick}
 use Rattle.lists.specs.Sequence.{ticks}
 use Rattle.table.specs.declared.Rule.{Rule}
-use Rattle.book.specs.Reading.{reading}
 use Rattle.session.specs.declared.Session.{Session}
 use Rattle.mission.specs.Calls.{Call, Calls, statesFed, verdictsGiven}
-use Rattle.mission.specs.Mission.{Start, sessionOf, startDelay, verdictOf}
+use Rattle.mission.specs.Mission.{readTable, Start, sessionOf, startDelay, verdictOf}
 use Rattle.lines.specs.declared.Line.{Line}
 use Rattle.lines.specs.Lines.{Parsed, state, bad, parsedLines, parsedFrom}
 use Rattle.rows.specs.Rows.{rowsNamed, badLine, feedLine}
@@ -39,9 +38,9 @@ abbrev pub nameIn : List Rule → ℕ → ℕ
 nameIn rules r = getD (map (λ (q : Rule). q .name) rules) r 0
 
 module _ (m : Start) where
-  -- the name of the rule as it stood in the book
+  -- the name of the rule as it was read
   abbrev pub ruleName : ℕ
-  ruleName = nameIn (reading (m .book) .table .rules) (m .rule)
+  ruleName = nameIn (readTable (m .source) .rules) (m .rule)
 
   -- the rows of the first n ticks of a trace
   abbrev pub rowsUpTo : List ℕ → ℕ → List ℕ

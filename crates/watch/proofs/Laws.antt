@@ -24,6 +24,7 @@ use Rattle.book.proofs.Sound.{accepted-sound}
 use Rattle.simplify.specs.declared.Simplified.{Simplified}
 use Rattle.simplify.specs.Promise.{Promised, Simpler}
 use Rattle.mission.specs.Mission.{Start}
+use Rattle.mission.specs.Mission as mission
 use Rattle.lines.specs.declared.Line.{Line}
 use Rattle.lines.specs.declared.Filled.{Filled}
 use Rattle.lines.specs.Lines.{empty, Filling, filling, filledFrom}
@@ -79,7 +80,7 @@ module _ (t : Table) (s : Simplified) (promised : Promised t s) (d : Rule) where
   begins book bytes n e h =
       let sound : isSound t ≡ true = rw (← e) (sound-iff (reading book .table) .1 (accepted-sound book bytes n)) in
       let m : Start = record {
-        book = book;
+        source = mission.book book;
         read = n;
         simplified = s;
         promised = rw e promised;

@@ -10,6 +10,7 @@ use Rattle.table.specs.declared.Table.{Table}
 use Rattle.book.specs.Entries.{Bytes}
 use Rattle.book.specs.Reading.{reading}
 use Rattle.mission.specs.Mission.{Start}
+use Rattle.mission.specs.Mission as mission
 use Rattle.lines.specs.Lines.{empty}
 use Rattle.transcript.specs.Printed.{ruleName, printed, Running, Stopped}
 use Rattle.watch.specs.declared.Progress.{Progress}
@@ -27,7 +28,7 @@ pub record Follows (m : Start) (last : Bool) (read shown : List ℕ) (p : Progre
 -- the program at its start, on the first rule of a book that was read, and whatever history and block hold
 pub record Begun (book h : List ℕ) (p : Progress) : Type 0 where
   pub start : Start
-  pub its-book : start .book ≡ book
+  pub its-book : start .source ≡ mission.book book
   pub first-rule : start .rule ≡ 0
   pub its-history : start .history ≡ h
   pub goes : p .going ≡ true
