@@ -46,34 +46,40 @@ extern "C" {
 #define JUNTREAK_MAX_TRACE 5120       /* states of a whole trace */
 #define JUNTREAK_MAX_BLOCK 1024       /* states of one feed */
 #define JUNTREAK_MAX_SEEN 4294967295  /* states of a session from its opening on */
+#define JUNTREAK_MAX_DEPTH 32         /* brackets of a typed rule that are open at once */
 
 /* Least length of out for a whole trace of n states. */
 #define JUNTREAK_WHOLE_WORDS(n) ((n) / 64 + ((n) % 64 != 0))
 
 /* The numbers that the functions answer, in the order of the checks: the
  * first that fits is answered. 3 to 10 are tried record by record along the
- * chain, on the head only 3. */
+ * chain, on the head only 3. juntreak_read_text says how typed rules are
+ * tried. */
 enum {
     JUNTREAK_OK = 0,
-    /* Books, answered with a record. */
+    /* Books, answered with a record; 5, 6 and 8 to 11 also of typed rules,
+     * answered with a line. */
     JUNTREAK_LENGTH = 1,    /* length not 12 * (1..255); record 0 */
     JUNTREAK_HEAD = 2,      /* head has a byte set beside its next; record 0 */
     JUNTREAK_LINK = 3,      /* next beyond the book or already passed; the record that links */
     JUNTREAK_FORM = 4,      /* kind not 1..11, or an unused field or byte 9-11 set */
-    JUNTREAK_ARGUMENT = 5,  /* signal above 31, or name 0 */
+    JUNTREAK_ARGUMENT = 5,  /* signal above 31, or name 0; typed, also a name above 255 */
     JUNTREAK_INTERVAL = 6,  /* lo > hi or hi > 4095; splitting answers it with record 0 */
     JUNTREAK_OPERAND = 7,   /* operand not an earlier node */
     JUNTREAK_FULL = 8,      /* 65th node or 9th rule */
     JUNTREAK_LONG = 9,      /* delay above 4095 */
     JUNTREAK_NAME = 10,     /* name already used */
-    JUNTREAK_RULELESS = 11, /* chain ended without a rule; record 0 */
+    JUNTREAK_RULELESS = 11, /* chain ended without a rule, record 0; or an empty text, line 0 */
     /* Tables and sessions. */
     JUNTREAK_UNSOUND = 25,  /* bytes that are no sound table's or no session's */
     JUNTREAK_ABSENT = 21,   /* rule number not below the rule count */
     JUNTREAK_STATES = 22,   /* above 1024 states (feed) or 5120 (whole trace, early) */
     JUNTREAK_BUFFER = 23,   /* history, scratch or out too short */
     JUNTREAK_SEEN = 24,     /* seen + k above 4294967295 */
-    JUNTREAK_TICK = 31      /* tick not below the states given */
+    JUNTREAK_TICK = 31,     /* tick not below the states given */
+    /* Typed rules, answered with a place in the text, from 0. */
+    JUNTREAK_SYNTAX = 32,   /* a byte, or the text's end, that no line can have there */
+    JUNTREAK_DEEP = 33      /* an opening bracket that is fit there, but the 33rd open one */
 };
 
 /* The values that juntreak_early answers. */
@@ -87,6 +93,9 @@ enum {
 /* of juntreak_check_book and juntreak_read: the number, and the record */
 #define JUNTREAK_BOOK_NUMBER(answer) ((uint32_t)(answer) % 256)
 #define JUNTREAK_BOOK_RECORD(answer) ((uint32_t)(answer) / 256)
+/* of juntreak_read_text: the number, and the place (32, 33) or the line */
+#define JUNTREAK_TEXT_NUMBER(answer) ((uint32_t)((answer) % 256))
+#define JUNTREAK_TEXT_AT(answer) ((uint64_t)(answer) / 256)
 /* of juntreak_delay: the number, and the delay */
 #define JUNTREAK_DELAY_NUMBER(answer) ((uint32_t)(answer) % 65536)
 #define JUNTREAK_DELAY_TICKS(answer) ((uint32_t)(answer) / 65536)
@@ -134,6 +143,17 @@ enum {
  *   550..557 seen, the count of states fed, at most 4294967295
  *
  * Verdicts in out: verdict i is bit i % 64 of word i / 64.
+ *
+ * A text is lines, each ended by byte 10; a line is one rule.
+ *   line         name : formula
+ *   formula      disjunction, or unary U[a,b] unary, or unary R[a,b] unary
+ *   disjunction  conjunctions joined by |, grouped to the left
+ *   conjunction  unaries joined by &, grouped to the left
+ *   unary        atom, or !, F[a,b] or G[a,b] before a unary
+ *   atom         s with a number, true, false, or a formula in round brackets
+ * Numbers are decimal without leading zeros. Spaces (byte 32) may stand
+ * anywhere but inside a number, true, false or s with its number. At most 32
+ * brackets are open at once.
  */
 
 /* Checks a book of n bytes. Answers 0 if it is accepted, otherwise
@@ -144,6 +164,21 @@ uint32_t juntreak_check_book(const uint8_t *book, size_t n);
  * the book's table is written. */
 uint32_t juntreak_read(const uint8_t *book, size_t n,
                        uint8_t table[JUNTREAK_TABLE_BYTES]);
+
+/* Reads a text of n bytes. Answers 0 if it is accepted, otherwise
+ * number + 256 * place with 32 and 33, number + 256 * line with 5, 6, 8, 9,
+ * 10 and 11; places count from 0, lines from 1. If it is 0, the text's table
+ * is written: line by line a node for each atom without brackets and each
+ * operator, operands before users, left first, then the rule.
+ * An empty text is refused with 11, line 0. Lines are tried one by one:
+ * - first with the earliest of 32 and 33 in the line; no line at all, of any
+ *   depth, begins with the bytes up to and with the place of a 32, and a line
+ *   that lacks only its byte 10 has 32 at n;
+ * - then node by node, the rule last, with the first of 5 (signal above 31,
+ *   name 0 or above 255), 6, 8, 9 and 10 that fits.
+ * A place of 2^56 or more is told as 2^56 - 1. */
+uint64_t juntreak_read_text(const uint8_t *text, size_t n,
+                            uint8_t table[JUNTREAK_TABLE_BYTES]);
 
 /* The delay of a rule. Answers number + 65536 * delay, numbers 0, 25, 21;
  * the delay is 0 if refused. */

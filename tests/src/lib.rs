@@ -1,6 +1,7 @@
 //! The proved library as Rust sees it (`library`), the limits and refusal numbers of its C header (`header`), models written from the
-//! documents alone (`model`, `known`, `program`), random input (`random`), and where programs run (`place`). For the benchmarks (`bench`): the
-//! formulas (`formulas`), and what the library and the program are compared with (`naive`, `queue`, `twin`, `plain`).
+//! documents alone (`model`, `known`, `typed`, `viable`, `program`), random input (`random`), and where programs run (`place`). For
+//! the benchmarks (`bench`): the formulas (`formulas`), and what the library and the program are compared with (`naive`, `queue`,
+//! `twin`, `plain`, `plain_text`).
 pub mod bench;
 pub mod formulas;
 pub mod header;
@@ -10,10 +11,13 @@ pub mod model;
 pub mod naive;
 pub mod place;
 pub mod plain;
+pub mod plain_text;
 pub mod program;
 pub mod queue;
 pub mod random;
 pub mod twin;
+pub mod typed;
+pub mod viable;
 
 /// Fails at the first place where two buffers differ.
 pub fn same<T: PartialEq + std::fmt::Debug>(what: &str, got: &[T], want: &[T]) {

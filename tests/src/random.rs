@@ -1,7 +1,8 @@
-//! Random numbers, tables, books and traces.
-use crate::header::limits::{MAX_RECORDS, MAX_RULES, MAX_SIGNAL, RECORD_BYTES, TABLE_BYTES};
+//! Random numbers, tables, books, typed rules and traces.
+use crate::header::limits::{MAX_DEPTH, MAX_RECORDS, MAX_RULES, MAX_SIGNAL, RECORD_BYTES, TABLE_BYTES};
 use crate::header::places::rule_at;
 use crate::model::{law_at, sound, unused, Node, Rule, Table};
+use crate::typed::{depth, tokens, Line, Part};
 
 /// SplitMix64.
 pub struct Random(pub u64);
@@ -435,4 +436,57 @@ pub fn law_free(r: &mut Random, count: usize, longest: usize) -> Table {
         }
         return t;
     }
+}
+
+/// The parts of a formula with `count` nodes, operands before users, whose delay is at most `room`.
+fn formula(r: &mut Random, count: usize, room: u16) -> Vec<Part> {
+    let kind = match count {
+        1 => r.pick(&[1, 1, 1, 2, 3]),
+        2 => r.pick(&[4, 7, 8]),
+        _ => r.pick(&[4, 5, 5, 6, 6, 7, 8, 9, 10]),
+    };
+    let (lo, hi) = if kind >= 7 { interval(r, room) } else { (0, 0) };
+    let arg = if kind == 1 { r.below(MAX_SIGNAL as u64 + 1) as u32 } else { 0 };
+    let part = Part { kind, arg, lo: lo as u32, hi: hi as u32 };
+    let mut parts = vec![];
+    if part.operands() == 2 {
+        let first = 1 + r.below(count as u64 - 2) as usize;
+        parts = formula(r, first, room - hi);
+    }
+    if part.operands() > 0 {
+        parts.extend(formula(r, count - 1 - parts.len(), room - hi));
+    }
+    parts.push(part);
+    parts
+}
+
+/// Rules whose formulas have these counts of nodes, can be printed, and have delays of at most `longest`.
+pub fn lines(r: &mut Random, counts: &[usize], longest: usize) -> Vec<Line> {
+    let mut lines: Vec<Line> = vec![];
+    while lines.len() < counts.len() {
+        let name = lines.last().map_or(0, |line| line.name) + 1 + r.below(31) as u32;
+        let line = Line { name, formula: formula(r, counts[lines.len()], longest as u16) };
+        if depth(&tokens(&line, || false)) <= MAX_DEPTH {
+            lines.push(line);
+        }
+    }
+    lines
+}
+
+/// The text of rules, with spaces and with brackets that nothing needs, or without.
+pub fn text(r: &mut Random, lines: &[Line]) -> Vec<u8> {
+    let (brackets, spaces) = (r.pick(&[2, 5, 20, u64::MAX]), r.pick(&[1, 2, 4, u64::MAX]));
+    let mut text = vec![];
+    for line in lines {
+        let mut drawn = tokens(line, || r.chance(brackets));
+        if depth(&drawn) > MAX_DEPTH {
+            drawn = tokens(line, || false);
+        }
+        for token in drawn {
+            let before = if r.chance(spaces) { 1 + r.below(3) as usize } else { 0 };
+            text.extend(std::iter::repeat(b' ').take(before));
+            text.extend(token.bytes());
+        }
+    }
+    text
 }

@@ -39,6 +39,11 @@ fn the_rule_is_decided_in_its_third_tick() {
 }
 
 #[test]
+fn typed_rules_are_read_or_refused_with_a_place() {
+    assert_eq!(printed("text"), "2 rules: 7 8\nrefused with 32: line 2, column 14\nrefused with 6: line 2\n");
+}
+
+#[test]
 fn the_rows_are_those_worked_by_hand() {
     assert_eq!(printed("rows"), include_str!("../../examples/rows.txt"));
 }

@@ -7,7 +7,7 @@ use std::collections::{BTreeMap, BTreeSet};
 type Constants = BTreeMap<String, u64>;
 
 /// Every constant of the header.
-const VALUES: [(&str, u64); 45] = [
+const VALUES: [(&str, u64); 48] = [
     ("RECORD_BYTES", 12),
     ("BOOK_BYTES", 3060),
     ("TABLE_BYTES", 546),
@@ -30,6 +30,7 @@ const VALUES: [(&str, u64); 45] = [
     ("MAX_TRACE", 5120),
     ("MAX_BLOCK", 1024),
     ("MAX_SEEN", 4_294_967_295),
+    ("MAX_DEPTH", 32),
     ("NODE_COUNT_AT", 0),
     ("RULE_COUNT_AT", 1),
     ("OK", 0),
@@ -50,6 +51,8 @@ const VALUES: [(&str, u64); 45] = [
     ("BUFFER", 23),
     ("SEEN", 24),
     ("TICK", 31),
+    ("SYNTAX", 32),
+    ("DEEP", 33),
     ("NO", 0),
     ("YES", 1),
     ("OPEN", 2),

@@ -1,8 +1,9 @@
 //! The memory of a session: the lent buffers, and the stack of each call, found by running it on a painted one.
 use super::markdown::{number, table};
 use super::runs::{dense, Buffers};
+use super::text;
 use crate::formulas;
-use crate::header::limits::{CLOSE_WORDS, EARLY_SCRATCH_WORDS, FEED_WORDS, HISTORY_WORDS, MAX_BLOCK, MAX_NODES, MAX_TRACE, SCRATCH_WORDS, SESSION_BYTES};
+use crate::header::limits::{CLOSE_WORDS, EARLY_SCRATCH_WORDS, FEED_WORDS, HISTORY_WORDS, MAX_BLOCK, MAX_NODES, MAX_TRACE, SCRATCH_WORDS, SESSION_BYTES, TABLE_BYTES};
 use crate::header::refusals::OK;
 use crate::header::whole_words;
 use crate::library::{self, SessionBytes, TableBytes};
@@ -10,7 +11,7 @@ use crate::model::Table;
 use crate::queue::Monitor;
 use crate::random::{self, Random};
 
-const STACK: usize = 1 << 16;
+const STACK: usize = 1 << 20;
 const PAINT: u8 = 0xa5;
 
 /// Calls `f` on a stack of its own, which ends at `top`.
@@ -36,7 +37,7 @@ fn on_stack(top: *mut u8, f: &mut dyn FnMut()) {
     }
 }
 
-/// How many bytes of stack `f` uses, on a stack of 64 KiB: those from the lowest that has changed.
+/// How many bytes of stack `f` uses, on a stack of 1 MiB: those from the lowest that has changed.
 #[cfg(target_arch = "x86_64")]
 fn stack_of(mut f: impl FnMut()) -> Option<usize> {
     let mut stack = vec![[PAINT; 16]; STACK / 16];
@@ -85,7 +86,22 @@ fn stacks() -> Vec<Vec<String>> {
     let all: Vec<_> = tables.map(|t| stacks_of(&t)).collect();
     let names = ["juntreak_read", "juntreak_simplify", "juntreak_open", "juntreak_feed", "juntreak_close", "juntreak_verdicts", "juntreak_early"];
     let largest = |i: usize| all.iter().map(|x| x[i]).max().unwrap();
-    names.iter().enumerate().map(|(i, name)| vec![name.to_string(), largest(i).map_or("not measured".into(), bytes)]).collect()
+    names.iter().enumerate().map(|(i, name)| vec![name.to_string(), measured(largest(i))]).collect()
+}
+
+fn measured(stack: Option<usize>) -> String {
+    stack.map_or("not measured".into(), bytes)
+}
+
+/// The stack of reading each text, whatever is answered.
+fn reading_stacks() -> Vec<Vec<String>> {
+    let mut table = [0; TABLE_BYTES];
+    let mut stack = |text: &str| {
+        stack_of(|| {
+            library::read_text(text.as_bytes(), &mut table);
+        })
+    };
+    text::deep().iter().map(|(name, text)| vec![name.to_string(), measured(stack(text))]).collect()
 }
 
 fn bytes(n: usize) -> String {
@@ -105,6 +121,8 @@ pub fn run() {
     table("Memory that the caller lends to a session, in bytes:", &["Buffer", "Holds", "Bytes"], &rows);
 
     table("Stack of one call, in bytes:", &["Function", "Stack"], &stacks());
+
+    table("Stack of juntreak_read_text, in bytes:", &["Text", "Stack"], &reading_stacks());
 
     let queues = |t, block| bytes(Monitor::new(t, 0, block).queue_bytes());
     let rows: Vec<_> = formulas::all().iter().map(|(name, t)| vec![name.to_string(), queues(t, 1), queues(t, MAX_BLOCK)]).collect();

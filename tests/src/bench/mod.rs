@@ -8,4 +8,5 @@ pub mod plot;
 pub mod program;
 pub mod runs;
 pub mod stream;
+pub mod text;
 pub mod whole;

@@ -1,9 +1,10 @@
 //! The benchmarks: prints the tables of docs/BENCHMARKS.md. An argument names the file that the plot is written to.
-use juntreak_tests::bench::{early, growth, memory, plot, program, stream, whole};
+use juntreak_tests::bench::{early, growth, memory, plot, program, stream, text, whole};
 
 fn main() {
     whole::run();
     early::run();
+    text::run();
     let speeds = stream::run();
     growth::run();
     memory::run();
