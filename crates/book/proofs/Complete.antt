@@ -25,7 +25,6 @@ use Rattle.book.specs.declared.Entry.{Entry}
 use Rattle.book.specs.declared.Reading.{Reading}
 use Rattle.book.specs.Entries.{Bytes, entryOf, isNode, isRule, nameOf, usesIn}
 use Rattle.book.specs.Reading.{isNodeAt, isRuleAt, nodesIn, rulesIn, nodeOf, ruleOf, nodes, rules, tableOf, accepted, reading}
-use Rattle.book.specs.Reading as read
 use Rattle.book.specs.Keeps.{Head, Linked, Kept, Along, over, on, Keeps}
 use Rattle.book.specs.Writing.{bytes, headEntry, nodeEntry, ruleEntry, many, linkAfter, entryFor, bookOf, Yielded}
 use Rattle.book.proofs.Tests.{node-no-rule, node-uses}

@@ -2,15 +2,13 @@
 use mathlib.Core.Path.{_≡_, refl, sym, ap, _∙_, subst}
 use mathlib.Core.Logic.{_⊎_, ⊎-elim}
 use mathlib.Core.Bool.{Bool, true}
-use mathlib.Core.List.{List, _++_}
+use mathlib.Core.List.{List}
 use Prim.Native.Nat.{ℕ, _+_, _-_, _≤_}
 use native.Mathlib.Omega.{arith}
-use borrow.Rule.Slice.PartMut.{putMid, midOf, take-put, same-len-mid}
+use borrow.Rule.Slice.PartMut.{putMid, midOf}
 use lib.ListN.{length, take, drop}
-use lib.Seq.{drop-at, take-at, drop-drop, length-take-le}
 use Rattle.limits.specs.Limits.{scratchWords, earlyScratchWords}
-use Rattle.lists.specs.Choice.{pick}
-use Rattle.column.specs.Column.{register, lay}
+use Rattle.column.specs.Column.{lay}
 use Rattle.column.proofs.Registers.{length-register, length-lay}
 use Rattle.column.proofs.Parts.{part-laid, put-here, put-long, put-after, put-before}
 use Rattle.layout.specs.Layout.{Place, Step}

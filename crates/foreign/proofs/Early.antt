@@ -19,7 +19,7 @@ use Rattle.flat.specs.Flat.{tableFrom}
 use Rattle.early.specs.Early.{refused, value, earlyRows, earlyNumber, earlyNumberFor, earlyTold}
 use Rattle.early.proofs.Promise.{relied}
 use Rattle.juntreak.specs.Answers.{valueNumber, earlyAnswer}
-use Rattle.foreign.specs.Early.{earlyFor, decidedAnswer, ForeignEarly}
+use Rattle.foreign.specs.Early.{ForeignEarly}
 
 -- a value is known by its number
 value-of : (v w : Value) → valueNumber v ≡ valueNumber w → v ≡ w

@@ -1,7 +1,7 @@
 -- Every line of the grammar is accepted, and its formula is built, whatever building is. Assumes nothing.
 use Prim.Native.Nat.{ℕ, suc, _+_, _*_, _-_, _≤_}
 use native.Mathlib.Omega.{arith}
-use mathlib.Core.Path.{_≡_, refl, ap, ap₂, _∙_}
+use mathlib.Core.Path.{_≡_, refl, ap, ap₂, _∙_, subst}
 use mathlib.Core.Bool.{true, false}
 use mathlib.Core.List.{List, [], _∷_}
 use mathlib.Core.Option.{Option, none, some}
@@ -153,7 +153,7 @@ module _ {B N : Type 0} {A : Actions B N} (ex : Exact A) (lim : ℕ) where
   record DisjClaim (d : ℕ) (t : Formula) (bs r : List ℕ) : Type 0 where
     at : (st : Stack N) (b : B) → depth st + d ≤ lim → Either (cf AwaitUnary First [] st b) bs st (build A b t) r
 
-  record WholeClaim (d : ℕ) (t : Formula) (bs r : List ℕ) : Type 0 where
+  record FormulaClaim (d : ℕ) (t : Formula) (bs r : List ℕ) : Type 0 where
     at : (st : Stack N) (b : B) → depth st + d ≤ lim → Over (cf AwaitUnary First [] st b) bs st (build A b t) r
 
   abbrev Claim : Sort → ℕ → Formula → List ℕ → List ℕ → Type 0
@@ -161,7 +161,7 @@ module _ {B N : Type 0} {A : Actions B N} (ex : Exact A) (lim : ℕ) where
   Claim Unary d t bs r = UnaryClaim d t bs r
   Claim Conjunction d t bs r = ConjClaim d t bs r
   Claim Disjunction d t bs r = DisjClaim d t bs r
-  Claim AnyFormula d t bs r = WholeClaim d t bs r
+  Claim AnyFormula d t bs r = FormulaClaim d t bs r
 
   signal-claim : {d n : ℕ} {bs a r : List ℕ} → Spaces bs (115 ∷ a) → Number n a r → UnaryClaim d (signal n) bs r
   unfolding step plain build
@@ -187,7 +187,7 @@ module _ {B N : Type 0} {A : Actions B N} (ex : Exact A) (lim : ℕ) where
             record { now = atomDone A p is st (build A b (const false)); way = joins (spaces-start s) (moves refl (moves refl (moves refl (moves refl (moves refl still))))); like = itself A lim (unary-spaces A lim p st _) };
       }
 
-  brackets-claim : {d : ℕ} {t : Formula} {bs a c r : List ℕ} → Spaces bs (40 ∷ a) → WholeClaim d t a c → Spaces c (41 ∷ r) → UnaryClaim (suc d) t bs r
+  brackets-claim : {d : ℕ} {t : Formula} {bs a c r : List ℕ} → Spaces bs (40 ∷ a) → FormulaClaim d t a c → Spaces c (41 ∷ r) → UnaryClaim (suc d) t bs r
   unfolding step plain depth
   brackets-claim {t = t} s w e =
       record {
@@ -213,23 +213,25 @@ module _ {B N : Type 0} {A : Actions B N} (ex : Exact A) (lim : ℕ) where
             record { now = q .now; way = joins (spaces-start s) (moves refl (q .way)); like = q .like };
       }
 
+  -- F and G: by the byte x of the operator k
+  window-claim : {d lo hi : ℕ} {t : Formula} {bs a c r : List ℕ} (x k : ℕ)
+      → ((p : Awaited N) (is : List Item) (st : Stack N) (b : B) → step A lim (cf AwaitUnary p is st b) x ≡ on (cf (AwaitByte (ToLo k)) p is st b))
+      → ((p : Awaited N) (is : List Item) (st : Stack N) (b : B) → go A (ToOp k lo hi) p is st b ≡ cf AwaitUnary p (item k 0 lo hi ∷ is) st b)
+      → Spaces bs (x ∷ a) → Interval lo hi a c → UnaryClaim d t c r
+      → (p : Awaited N) (is : List Item) (st : Stack N) (b : B) → depth st + d ≤ lim → Reach A lim (cf AwaitUnary p is st b) bs (atomDone A p (item k 0 lo hi ∷ is) st (build A b t)) r
+  window-claim {lo = lo} {hi = hi} {a = a} {c = c} x k steps lands s v u p is st b h =
+      let q = u .at p (item k 0 lo hi ∷ is) st b h in
+      let w : Runs A lim (cf (AwaitByte (ToLo k)) p is st b) a (cf AwaitUnary p (item k 0 lo hi ∷ is) st b) c =
+      subst (λ (z : Config B N). Runs A lim (cf (AwaitByte (ToLo k)) p is st b) a z c) (lands p is st b) (interval-run ex v) in
+      record { now = q .now; way = joins (spaces-start s) (moves (steps p is st b) (joins w (q .way))); like = q .like }
+
   finally-claim : {d lo hi : ℕ} {t : Formula} {bs a c r : List ℕ} → Spaces bs (70 ∷ a) → Interval lo hi a c → UnaryClaim d t c r → UnaryClaim d (F lo hi t) bs r
   unfolding step plain puts build
-  finally-claim {lo = lo} {hi = hi} s v u =
-      record {
-        at = λ p is st b h.
-            let q = u .at p (item 7 0 lo hi ∷ is) st b h in
-            record { now = q .now; way = joins (spaces-start s) (moves refl (joins (interval-run ex v) (q .way))); like = q .like };
-      }
+  finally-claim s v u = record { at = window-claim 70 7 (λ p is st b. refl) (λ p is st b. refl) s v u }
 
   globally-claim : {d lo hi : ℕ} {t : Formula} {bs a c r : List ℕ} → Spaces bs (71 ∷ a) → Interval lo hi a c → UnaryClaim d t c r → UnaryClaim d (G lo hi t) bs r
   unfolding step plain puts build
-  globally-claim {lo = lo} {hi = hi} s v u =
-      record {
-        at = λ p is st b h.
-            let q = u .at p (item 8 0 lo hi ∷ is) st b h in
-            record { now = q .now; way = joins (spaces-start s) (moves refl (joins (interval-run ex v) (q .way))); like = q .like };
-      }
+  globally-claim s v u = record { at = window-claim 71 8 (λ p is st b. refl) (λ p is st b. refl) s v u }
 
   unary-claim : {d : ℕ} {t : Formula} {bs r : List ℕ} → UnaryClaim d t bs r → ConjClaim d t bs r
   unfolding unaryDone puts
@@ -268,7 +270,7 @@ module _ {B N : Type 0} {A : Actions B N} (ex : Exact A) (lim : ℕ) where
             record { o = some (A .lastNode e); u = build A e u; joint = record { now = y .now; way = joins (x .joint .way) (joins z (y .way)); ends = y .ends }; is = refl };
       }
 
-  disjunction-claim : {d : ℕ} {t : Formula} {bs r : List ℕ} → DisjClaim d t bs r → WholeClaim d t bs r
+  disjunction-claim : {d : ℕ} {t : Formula} {bs r : List ℕ} → DisjClaim d t bs r → FormulaClaim d t bs r
   disjunction-claim f =
       record {
         at = λ st b h.
@@ -276,27 +278,33 @@ module _ {B N : Type 0} {A : Actions B N} (ex : Exact A) (lim : ℕ) where
             record { now = x .joint .now; way = x .joint .way; shuts = rw (x .is) at (shuts-ends (x .joint .ends)) };
       }
 
-  until-claim : {d lo hi : ℕ} {t u : Formula} {bs a c e r : List ℕ} → UnaryClaim d t bs a → Spaces a (85 ∷ c) → Interval lo hi c e → UnaryClaim d u e r → WholeClaim d (U lo hi t u) bs r
-  unfolding step plain unaryDone puts build
-  until-claim {lo = lo} {hi = hi} {t = t} f s v g =
+  -- U and R: by the byte x of the operator k
+  between-claim : {d lo hi : ℕ} {t u : Formula} {bs a c e r : List ℕ} (x k : ℕ) → isDigit x ≡ false
+      → ((st : Stack N) (b : B) → step A lim (cf FirstRead First [] st b) x ≡ on (cf (AwaitByte (ToLo k)) First [] st b))
+      → ((st : Stack N) (b : B) → go A (ToOp k lo hi) First [] st b ≡ cf AwaitUnary (Right (item k 0 lo hi) (A .lastNode b)) [] st b)
+      → UnaryClaim d t bs a → Spaces a (x ∷ c) → Interval lo hi c e → UnaryClaim d u e r
+      → (st : Stack N) (b : B) → depth st + d ≤ lim → Over (cf AwaitUnary First [] st b) bs st (A .emit (build A (build A b t) u) (item k 0 lo hi) (A .lastNode (build A b t))) r
+  unfolding unaryDone puts
+  between-claim {lo = lo} {hi = hi} {t = t} {c = c} {e = e} x k other steps lands f s v g st b h =
+      let one = build A b t in
+      let first = f .at First [] st b h in
+      let m = after (first .like) s in
+      let second = g .at (Right (item k 0 lo hi) (A .lastNode one)) [] st one h in
+      let w : Runs A lim (cf (AwaitByte (ToLo k)) First [] st one) c (cf AwaitUnary (Right (item k 0 lo hi) (A .lastNode one)) [] st one) e =
+      subst (λ (z : Config B N). Runs A lim (cf (AwaitByte (ToLo k)) First [] st one) c z e) (lands st one) (interval-run ex v) in
       record {
-        at = λ st b h.
-            let x = f .at First [] st b h in
-            let m = after (x .like) s in
-            let y = g .at (Right (item 9 0 lo hi) (A .lastNode (build A b t))) [] st (build A b t) h in
-            record { now = y .now; way = joins (x .way) (joins (m .way) (moves (m .like .at 85 refl) (joins (interval-run ex v) (y .way)))); shuts = closed-shuts (y .like) };
+        now = second .now;
+        way = joins (first .way) (joins (m .way) (moves (m .like .at x other ∙ steps st one) (joins w (second .way))));
+        shuts = closed-shuts (second .like);
       }
 
-  release-claim : {d lo hi : ℕ} {t u : Formula} {bs a c e r : List ℕ} → UnaryClaim d t bs a → Spaces a (82 ∷ c) → Interval lo hi c e → UnaryClaim d u e r → WholeClaim d (R lo hi t u) bs r
-  unfolding step plain unaryDone puts build
-  release-claim {lo = lo} {hi = hi} {t = t} f s v g =
-      record {
-        at = λ st b h.
-            let x = f .at First [] st b h in
-            let m = after (x .like) s in
-            let y = g .at (Right (item 10 0 lo hi) (A .lastNode (build A b t))) [] st (build A b t) h in
-            record { now = y .now; way = joins (x .way) (joins (m .way) (moves (m .like .at 82 refl) (joins (interval-run ex v) (y .way)))); shuts = closed-shuts (y .like) };
-      }
+  until-claim : {d lo hi : ℕ} {t u : Formula} {bs a c e r : List ℕ} → UnaryClaim d t bs a → Spaces a (85 ∷ c) → Interval lo hi c e → UnaryClaim d u e r → FormulaClaim d (U lo hi t u) bs r
+  unfolding step plain build
+  until-claim f s v g = record { at = between-claim 85 9 refl (λ st b. refl) (λ st b. refl) f s v g }
+
+  release-claim : {d lo hi : ℕ} {t u : Formula} {bs a c e r : List ℕ} → UnaryClaim d t bs a → Spaces a (82 ∷ c) → Interval lo hi c e → UnaryClaim d u e r → FormulaClaim d (R lo hi t u) bs r
+  unfolding step plain build
+  release-claim f s v g = record { at = between-claim 82 10 refl (λ st b. refl) (λ st b. refl) f s v g }
 
   claims : {s : Sort} {d : ℕ} {t : Formula} {bs r : List ℕ} → Is s d t bs r → Claim s d t bs r
   claims (a-signal s v) = signal-claim s v

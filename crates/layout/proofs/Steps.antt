@@ -1,9 +1,8 @@
 -- What an operator leaves is a step. Assumes nothing.
-use mathlib.Core.Path.{_≡_, sym, ap, _∙_}
+use mathlib.Core.Path.{_≡_, ap, _∙_}
 use mathlib.Core.Bool.{Bool, true}
 use mathlib.Core.List.{List}
 use Prim.Native.Nat.{ℕ, _+_, _≤_, min}
-use native.Mathlib.Nat.{zero-add}
 use native.Mathlib.Omega.{arith}
 use borrow.Author.Tests.{le-leb}
 use lib.Dec.{leb}
@@ -12,7 +11,6 @@ use Rattle.limits.specs.Limits.{registerWords, scratchWords}
 use Rattle.lists.specs.Choice.{pick}
 use Rattle.column.specs.Column.{register, lay}
 use Rattle.column.proofs.Registers.{register-lay, take-lay}
-use Rattle.column.proofs.Parts.{register-part}
 use Rattle.operators.specs.Operators.{worked, Operand}
 use Rattle.operators.proofs.Fits.{Four}
 use Rattle.operators.proofs.Worked.{drop-above, worked-here, worked-low, worked-high}

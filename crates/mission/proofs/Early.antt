@@ -1,11 +1,10 @@
 -- An early answer is the verdict of the rule as it stood in the book or in the text. Assumes nothing.
-use Prim.Native.Nat.{ℕ, _<_}
+use Prim.Native.Nat.{_<_}
 use native.Mathlib.Omega.{arith}
-use mathlib.Core.Path.{_≡_, sym, _∙_}
+use mathlib.Core.Path.{sym, _∙_}
 use mathlib.Core.List.{_++_}
 use lib.ListN.{length, length-append}
 use Rattle.early.proofs.Promise.{relied}
-use Rattle.mission.specs.Mission.{Start}
 use Rattle.mission.specs.Early.{EarlyVerdict}
 use Rattle.mission.proofs.ThirdDemand.{better, watched}
 

@@ -1,14 +1,12 @@
 -- What `line` answers, by the grammar: a fault at the earliest place, or the one reading of the line, its nodes on the tape. Assumes nothing.
-use Prim.Native.Nat.{ℕ, _+_, _*_, _-_, _≤_, _<_, min}
+use Prim.Native.Nat.{ℕ, _+_, _*_, _-_, _≤_, min}
 use native.Mathlib.Omega.{arith}
 use mathlib.Core.Path.{_≡_, refl, sym, ap, _∙_}
-use mathlib.Core.Logic.{⊎-elim}
 use mathlib.Core.Bool.{Bool, true, false}
 use mathlib.Core.List.{List, [], _∷_, _++_}
 use lib.Dec.{eqb}
 use lib.ListN.{length, drop}
 use borrow.Author.Tests.{ne-eqb, eqb-true}
-use Rattle.lists.proofs.Tests.{lt-or-le}
 use Rattle.mltl.specs.Mltl.{Formula, const}
 use Rattle.grammar.specs.declared.Item.{Item}
 use Rattle.grammar.specs.Grammar.{Line, Fault32, Fault33}
@@ -22,7 +20,7 @@ use Rattle.grammar.specs.declared.Made.{Made}
 use Rattle.grammar.specs.Tape.{Tape, tape, tapes, emitted}
 use Rattle.parser.specs.Reads.{from, told, LineRead}
 use Rattle.grammar.specs.Made.{made, lists, nodesOf, spreadOn, spread}
-use Rattle.parser.proofs.Tapes.{emit-room, emit-full}
+use Rattle.parser.proofs.Tapes.{emit-count}
 
 -- ---- nothing built: the image of every reading
 abbrev Bare : Type 0
@@ -61,15 +59,6 @@ tapes-bare : Image tapes bare noTape noPlace
 tapes-bare = record { more = sat-held; lastNode = λ b. refl; emit = λ b i v. refl }
 
 -- ---- the tape is the image of the nodes
-emit-count : (s : Tape) (it : Item) (l : ℕ) → emitted s it l .count ≡ min 65 (s .count + 1) + (s .count - 65)
-emit-count s it l = ⊎-elim room full (lt-or-le (s .count) 65)
-  where
-    room : s .count < 65 → emitted s it l .count ≡ min 65 (s .count + 1) + (s .count - 65)
-    room h = let e = ap (λ (x : Tape). x .count) (emit-room (s .cells) (s .count) it l h) in omega arith
-
-    full : 65 ≤ s .count → emitted s it l .count ≡ min 65 (s .count + 1) + (s .count - 65)
-    full h = let e = ap (λ (x : Tape). x .count) (emit-full s it l h) in omega arith
-
 pub spread-count : (ms : List Made) (s : Tape) → s .count ≤ 65 → spreadOn s ms .count ≡ min 65 (s .count + length ms)
 unfolding spreadOn
 spread-count [] s h = omega arith

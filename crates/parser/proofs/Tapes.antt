@@ -51,13 +51,14 @@ unfolding puts
 puts-full s [] h = refl
 puts-full s (i ∷ is) h = ap (λ (x : Tape). puts tapes x is) (sym (emit-full s i (s .count - 1) h)) ∙ puts-full s is h
 
-emit-count : (s : Tape) (it : Item) (l : ℕ) → min 65 (s .count + 1) ≤ emitted s it l .count
+-- a node more counts, up to 65
+pub emit-count : (s : Tape) (it : Item) (l : ℕ) → emitted s it l .count ≡ min 65 (s .count + 1) + (s .count - 65)
 emit-count s it l = ⊎-elim room full (lt-or-le (s .count) 65)
   where
-    room : s .count < 65 → min 65 (s .count + 1) ≤ emitted s it l .count
+    room : s .count < 65 → emitted s it l .count ≡ min 65 (s .count + 1) + (s .count - 65)
     room h = let e = ap (λ (x : Tape). x .count) (emit-room (s .cells) (s .count) it l h) in omega arith
 
-    full : 65 ≤ s .count → min 65 (s .count + 1) ≤ emitted s it l .count
+    full : 65 ≤ s .count → emitted s it l .count ≡ min 65 (s .count + 1) + (s .count - 65)
     full h = let e = ap (λ (x : Tape). x .count) (emit-full s it l h) in omega arith
 
 puts-count : (s : Tape) (is : List Item) → min 65 (s .count + length is) ≤ puts tapes s is .count

@@ -1,7 +1,7 @@
 -- `early::evaluate` meets its contract. Assumes nothing.
-use Prim.Native.Nat.{_+_, _-_, ℕ}
+use Prim.Native.Nat.{_-_}
 use native.Mathlib.Omega.{arith}
-use mathlib.Core.Path.{ap, subst, _∙_, _≡_}
+use mathlib.Core.Path.{ap, _∙_}
 use borrow.Author.Needs.{needs}
 use Rattle.lists.proofs.Sequences.{length-mapped}
 use Rattle.needed.specs.Marks.{Needs}

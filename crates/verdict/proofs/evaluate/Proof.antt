@@ -1,7 +1,7 @@
 -- `verdict::evaluate` meets its contract. Assumes nothing.
-use Prim.Native.Nat.{_+_, _-_, _/_, ℕ}
+use Prim.Native.Nat.{_+_, _-_, _/_}
 use native.Mathlib.Omega.{arith}
-use mathlib.Core.Path.{subst, _≡_}
+use mathlib.Core.Path.{_≡_}
 use borrow.Author.Needs.{needs}
 use lib.ListN.{length-append}
 use Rattle.lists.specs.Bits.{words}
@@ -10,7 +10,6 @@ use Rattle.verdict.proofs.Answers.{cleared-is, told-is}
 use Rattle.needed.specs.Marks.{Needs}
 use Rattle.needed.proofs.Marked.{needs-by}
 use Rattle.layout.proofs.Runs.{runnable}
-use Rattle.verdict.specs.Verdict.{enough}
 use Rattle.verdict.proofs.evaluate.Statement.{statement}
 use Rattle.verdict.proofs.evaluate.Tie as tie
 
