@@ -17,7 +17,7 @@ use Rattle.column.specs.Column.{register}
 use Rattle.column.proofs.Registers.{length-register, register-in}
 use Rattle.column.proofs.Parts.{register-part}
 use Rattle.table.specs.Nodes.{formulaAt, nodeAt, ruleAt, watchedFormula}
-use Rattle.table.specs.Sound.{Sound, fits, isSound}
+use Rattle.table.specs.Sound.{Sound, isSound}
 use Rattle.table.specs.declared.Node.{Node}
 use Rattle.table.specs.declared.Table.{Table}
 use Rattle.table.proofs.Soundness.{fits-iff, sound-iff}

@@ -11,7 +11,6 @@ use Rattle.lists.specs.Bits.{bitAt, words}
 use Rattle.lists.proofs.Tests.{true-or-false}
 use Rattle.mltl.specs.Mltl.{Formula}
 use Rattle.mltl.proofs.KnownColumns.{FormulaColumns}
-use Rattle.column.specs.Column.{register}
 use Rattle.table.specs.Nodes.{opOf, noNode, formulaAt}
 use Rattle.table.specs.Sound.{fits}
 use Rattle.table.specs.declared.Node.{Node}

@@ -1,7 +1,6 @@
 -- What the buffers hold in the end, when a call is ready, and its number. Assumes nothing.
 use Prim.Native.Nat.{_*_, _+_, _/_, _<_, ℕ, _≤_}
 use native.Mathlib.Nat.{zero-add}
-use native.Mathlib.Numerals.{add-one}
 use native.Mathlib.Omega.{arith}
 use mathlib.Core.Bool.{_&&_, Bool, false, true}
 use mathlib.Core.List.{_++_, List}
@@ -10,8 +9,8 @@ use mathlib.Core.Path.{refl, ap, ap₂, sym, _∙_, _≡_}
 use borrow.Author.Tests.{le-leb, le-ltb, leb-false, leb-true, lt-leb, lt-ltb, ltb-false, ltb-true, ne-eqb, not-false}
 use borrow.Rule.Slice.PartMut.{midOf, putMid}
 use lib.Dec.{eqb, leb, ltb}
-use lib.ListN.{drop, getD, length, length-append, length-take, replicate, set, take}
-use lib.Seq.{drop-paste, getD-take, paste, paste-suc, take-all, take-paste, take-take}
+use lib.ListN.{drop, getD, length, length-append, length-take, replicate, take}
+use lib.Seq.{drop-paste, getD-take, paste, take-all, take-paste, take-take}
 use Rattle.limits.specs.Limits.{registerWords}
 use Rattle.lists.proofs.Columns.{bitAt-same, length-packed, pack-ext, packed-in}
 use Rattle.lists.proofs.Sequences.{every-iff}
@@ -32,12 +31,6 @@ use Rattle.verdict.specs.Code.Steps.{Judgeable, Columns}
 use Rattle.verdict.specs.Verdict.{Answered, Judged, cleared, enough, fitsTo, wholeNumberFor, wholeNumber, ready, withVerdicts, wholeRows}
 
 -- ---- out and scratch
-pub copied-more : (out₀ c : List ℕ) {out : List ℕ} {x : ℕ} (w : ℕ) → w < length out₀ → w < length c → x ≡ getD c w 0 → out ≡ paste out₀ 0 c w
-    → set out w x ≡ paste out₀ 0 c (w + 1)
-copied-more out₀ c w h l e p =
-    ap₂ (λ (o : List ℕ) (y : ℕ). set o w y) p e ∙ ap (λ (i : ℕ). set (paste out₀ 0 c w) i (getD c w 0)) (sym (zero-add w))
-    ∙ paste-suc out₀ 0 c w 0 (omega arith) l ∙ ap (paste out₀ 0 c) (sym (add-one w))
-
 -- the first words of packed verdicts, cut
 cut-is : (m count n : ℕ) (f : ℕ → Bool) (c : List ℕ) → c ≡ take m (packed n f) → count ≤ n → m ≡ words count → pack m (below count (bitAt c)) ≡ packed count f
 unfolding packed
