@@ -5,10 +5,11 @@ use mathlib.Core.List.{List, [], _∷_, _++_, append-assoc, append-nil}
 use mathlib.Core.Logic.{_↔_, ⊎-elim}
 use Prim.Native.Nat.{ℕ, zero, suc, _+_, _-_, _*_, _≤_, _<_}
 use native.Mathlib.Nat.{add-suc, add-zero, zero-add}
+use native.Mathlib.Numerals.{add-one}
 use native.Mathlib.Omega.{arith}
-use borrow.Author.Tests.{ltb-true, leb-true, leb-false, eqb-false, lt-ltb, le-ltb, ne-eqb, le-leb, lt-leb}
+use borrow.Author.Tests.{ltb-true, leb-true, leb-false, eqb-false, lt-ltb, le-ltb}
 use lib.Dec.{ltb, leb, eqb}
-use lib.ListN.{length, getD, take, length-take}
+use lib.ListN.{length, getD, take, drop, length-take}
 use lib.Seq.{take-suc}
 use Rattle.lists.specs.Choice.{pick}
 use Rattle.lists.specs.Sequence.{among, ticks, padded}
@@ -20,6 +21,7 @@ use Rattle.table.specs.Sound.{NodeFits, RuleFits, Sound}
 use Rattle.table.specs.declared.Node.{Node}
 use Rattle.table.specs.declared.Table.{Table}
 use Rattle.table.proofs.Delays.{formula-at, delay-of}
+use Rattle.table.proofs.Soundness.{field-below}
 use Rattle.builder.proofs.Sound.{uses-arg}
 use Rattle.book.specs.declared.Entry.{Entry}
 use Rattle.book.specs.declared.Reading.{Reading}
@@ -33,7 +35,8 @@ use Rattle.book.proofs.Stands.{nodeIn, ruleIn}
 use Rattle.book.proofs.Kept.{node-iff, earlier-iff, rule-among}
 use Rattle.book.proofs.Accepts.{keeps-accepted, head-no-rule}
 use Rattle.book.proofs.Sound.{accepted-sound}
-use Rattle.book.proofs.Written.{entry-of, length-bytes, listed, listed-none, listed-more, length-listed, ups, ones, first-up, among-ups, among-ones, operand-place, Which, which}
+use Rattle.book.proofs.Writes.{node-for, rule-for, next-for, operands-small, rule-small, length-book}
+use Rattle.book.proofs.Records.{entry-of, listed, listed-none, listed-more, length-listed, ups, ones, first-up, among-ups, among-records, operand-place, Which, which}
 
 module _ (t : Table) (z : Sound t) where
   n : ℕ
@@ -51,24 +54,26 @@ module _ (t : Table) (z : Sound t) where
   ent r h = entry-of (ticks (entryFor t) (suc (many t))) r ∙ getD-ticks (entryFor t) (suc (many t)) r (headEntry 0) (omega arith)
 
   size : length s ≡ 12 * suc (many t)
-  unfolding s bookOf
-  size = length-bytes (ticks (entryFor t) (suc (many t))) ∙ ap (λ l. 12 * l) (length-ticks (entryFor t) (suc (many t)))
+  unfolding s
+  size = length-book t ∙ omega arith
 
   ent-head : entryOf s 0 ≡ headEntry (linkAfter t 0)
   ent-head = ent 0 (omega arith)
+
+  head-next : entryOf s 0 .next ≡ linkAfter t 0
+  head-next = ap (λ (e : Entry). e .next) ent-head
 
   ent-node : (k : ℕ) → k < n → entryOf s (suc k) ≡ nodeEntry (nodeAt t k) (linkAfter t (suc k))
   unfolding n
   ent-node k h =
       let d : suc k - 1 ≡ k = omega arith in
-      ent (suc k) (omega arith) ∙ rw (ne-eqb (suc k) 0 (omega arith), le-leb (suc k) (t .«node_count») (omega arith), d)
+      ent (suc k) (omega arith) ∙ node-for t (suc k) (λ e. omega arith) (omega arith) ∙ rw d
 
   ent-rule : (j : ℕ) → j < m → entryOf s (suc (n + j)) ≡ ruleEntry (ruleAt t j) (linkAfter t (suc (n + j)))
   unfolding n m
   ent-rule j h =
       let d : suc (t .«node_count» + j) - 1 - t .«node_count» ≡ j = omega arith in
-      ent (suc (t .«node_count» + j)) (omega arith)
-      ∙ rw (ne-eqb (suc (t .«node_count» + j)) 0 (omega arith), lt-leb (suc (t .«node_count» + j)) (t .«node_count») (omega arith), d)
+      ent (suc (t .«node_count» + j)) (omega arith) ∙ rule-for t (suc (t .«node_count» + j)) (omega arith) ∙ rw d
 
   -- ---- what is known of nodes and rules
   fits : (k : ℕ) → k < n → NodeFits k (nodeAt t k)
@@ -195,13 +200,13 @@ module _ (t : Table) (z : Sound t) where
   linked-on : (k : ℕ) → k ≤ many t → Linked s (ups k ++ (k ∷ [])) (linkAfter t k)
   linked-on k h = go (ltb k (many t)) refl
     where
-      go : (b : Bool) → ltb k (many t) ≡ b → Linked s (ups k ++ (k ∷ [])) (pick b (suc k) 0)
-      go true e = record {
+      go : (b : Bool) → ltb k (many t) ≡ b → Linked s (ups k ++ (k ∷ [])) (pick b (k + 1) 0)
+      go true e = rw (add-one k) (record {
         inside = λ i. omega (arith, size, ltb-true k (many t) e);
         new = λ i.
             among-not (suc k) (ups k ++ (k ∷ []))
             (ap (among (suc k)) (sym (listed-more (λ i. i) k)) ∙ among-ups (suc k) (suc k) ∙ le-ltb (suc k) (suc k) (omega arith));
-      }
+      })
       go false e = record { inside = λ i. absurd (i refl); new = λ i. absurd (i refl) }
 
   node-keeps : (k : ℕ) → k < n → Kept s (ups (suc k)) (suc k) (nodeEntry (nodeAt t k) (linkAfter t (suc k)))
@@ -228,9 +233,9 @@ module _ (t : Table) (z : Sound t) where
         signal = λ v. omega (arith, f .arg .limited (uses-arg (x .kind) ∙ rw v));
         name = λ v. absurd (omega (arith, f .node));
         ordered = f .ordered;
-        limited = limited (x .hi) (usesOf (opOf (x .kind)) .interval) (f .interval .limited) (f .interval .unused);
-        left = λ v. earlier-iff s (ups (suc k)) _ .0 (rw (v, l .nodes-in) (among-ones (x .left) k ∙ lt-ltb (x .left) k ((rw u at (f .left .limited)) v)));
-        right = λ v. earlier-iff s (ups (suc k)) _ .0 (rw (v, l .nodes-in) (among-ones (x .right) k ∙ lt-ltb (x .right) k ((rw u at (f .right .limited)) v)));
+        limited = omega (arith, field-below 4096 (f .interval) (omega arith) (omega arith));
+        left = λ v. earlier-iff s (ups (suc k)) _ .0 (rw (v, l .nodes-in) (among-records (x .left) k ∙ lt-ltb (x .left) k ((rw u at (f .left .limited)) v)));
+        right = λ v. earlier-iff s (ups (suc k)) _ .0 (rw (v, l .nodes-in) (among-records (x .right) k ∙ lt-ltb (x .right) k ((rw u at (f .right .limited)) v)));
         node-room = λ v. rw (l .nodes-in, length-listed suc k) (omega (arith, z .few-nodes));
         rule-room = λ v. absurd (omega (arith, f .node));
         delay = λ v. subst (λ (d : ℕ). d ≤ 4095)
@@ -238,10 +243,6 @@ module _ (t : Table) (z : Sound t) where
             (node-short k h);
         own = λ v q i j p. omega (arith, f .node);
       }
-    where
-      limited : (hi : ℕ) (b : Bool) → (b ≡ true → hi < 4096) → (b ≡ false → hi ≡ 0) → hi ≤ 4095
-      limited hi true p q = omega (arith, p refl)
-      limited hi false p q = omega (arith, q refl)
 
   rule-keeps : (j : ℕ) → j < m → Kept s (ups (suc (n + j))) (suc (n + j)) (ruleEntry (ruleAt t j) (linkAfter t (suc (n + j))))
   unfolding usesIn
@@ -267,7 +268,7 @@ module _ (t : Table) (z : Sound t) where
         name = λ u. f .named;
         ordered = omega arith;
         limited = omega arith;
-        left = λ u. earlier-iff s (ups (suc (n + j))) _ .0 (rw (l .nodes-in) (among-ones (x .watched) n ∙ lt-ltb (x .watched) n (f .watched)));
+        left = λ u. earlier-iff s (ups (suc (n + j))) _ .0 (rw (l .nodes-in) (among-records (x .watched) n ∙ lt-ltb (x .watched) n (f .watched)));
         right = λ u. absurd (false≢true u);
         node-room = λ u. absurd (omega (arith, u .high));
         rule-room = λ u. rw (l .rules-in, length-listed ruleNumber j) (omega (arith, few-rules));
@@ -297,14 +298,7 @@ module _ (t : Table) (z : Sound t) where
       (lt-or-le k n)
 
   each-next : (k : ℕ) → k < many t → entryOf s (suc k) .next ≡ linkAfter t (suc k)
-  each-next k h = ap (λ (e : Entry). e .next) (ent (suc k) (omega arith)) ∙ go (eqb (suc k) 0) (leb (suc k) (t .«node_count»))
-    where
-      go : (a b : Bool)
-          → pick a (headEntry (linkAfter t (suc k))) (pick b (nodeEntry (nodeAt t (suc k - 1)) (linkAfter t (suc k))) (ruleEntry (ruleAt t (suc k - 1 - t .«node_count»)) (linkAfter t (suc k)))) .next
-          ≡ linkAfter t (suc k)
-      go true b = refl
-      go false true = refl
-      go false false = refl
+  each-next k h = ap (λ (e : Entry). e .next) (ent (suc k) (omega arith)) ∙ next-for t (suc k)
 
   from : ℕ → ℕ → List ℕ
   from k zero = []
@@ -316,7 +310,7 @@ module _ (t : Table) (z : Sound t) where
   goes (suc d) k h =
       let b : k < many t = omega arith in
       let ne : ¬ (suc k ≡ 0) = λ p. omega arith in
-      rw (lt-ltb k (many t) b)
+      rw (lt-ltb k (many t) b, add-one k)
       (on {rest = from (suc k) d} ne (each-kept k b) (rw (each-next k b, ← (listed-more (λ i. i) (suc k))) (goes d (suc k) (omega arith))))
 
   all-ups : (d k : ℕ) → ups (suc k) ++ from k d ≡ ups (suc (k + d))
@@ -354,17 +348,20 @@ module _ (t : Table) (z : Sound t) where
   unfolding n m
   keeps =
       let h : Head (entryOf s 0) = rw ent-head (record { kind = refl; arg = refl; lo = refl; hi = refl; left = refl; right = refl; tail0 = refl; tail1 = refl; tail2 = refl }) in
-      let e : entryOf s 0 .next ≡ linkAfter t 0 = ap (λ (x : Entry). x .next) ent-head in
       let b : length (take m (t .rules)) ≡ t .«rule_count» = simp length-take (omega (arith, z .few-rules, z .rule-places)) in
       let r : length (rules s (0 ∷ from 0 (many t))) ≡ t .«rule_count» = ap (λ (l : List ℕ). length (rules s l)) whole-chain ∙ rw (last .rules-are) b in
       record {
         size = record { records = suc (many t); bytes = size; some = omega arith; few = omega (arith, z .few-nodes, z .few-rules) };
         head = h;
-        linked = rw e head-linked;
+        linked = rw head-next head-linked;
         chain = from 0 (many t);
-        along = rw e head-along;
+        along = rw head-next head-along;
         ruled = omega (arith, head-no-rule s h (from 0 (many t)), z .some-rule);
       }
+
+  up-chain : Along s (0 ∷ []) (entryOf s 0 .next) (ticks suc (many t))
+  unfolding listed
+  up-chain = subst (λ (l : List ℕ). Along s (0 ∷ []) (entryOf s 0 .next) l) (ap (drop 1) whole-chain) (rw head-next head-along)
 
   book-reads : reading s ≡ accepted t
   unfolding keeps
@@ -401,17 +398,13 @@ small-bytes (e ∷ es) h =
 after-small : (t : Table) (k : ℕ) → many t ≤ 72 → linkAfter t k < 256
 after-small t k h = go (ltb k (many t)) refl
   where
-    go : (b : Bool) → ltb k (many t) ≡ b → pick b (suc k) 0 < 256
+    go : (b : Bool) → ltb k (many t) ≡ b → pick b (k + 1) 0 < 256
     go true e = omega (arith, ltb-true k (many t) e)
     go false e = omega arith
 
-operand-small : (b : Bool) (u : ℕ) → (b ≡ true → u < 64) → pick b (suc u) 0 < 256
-operand-small true u h = omega (arith, h refl)
-operand-small false u h = omega arith
-
-signal-small : (b : Bool) (a : ℕ) → (b ≡ true → a < 32) → (b ≡ false → a ≡ 0) → a < 256
-signal-small true a p q = omega (arith, p refl)
-signal-small false a p q = omega (arith, q refl)
+number-small : (b : Bool) (u : ℕ) → u < 64 → pick b (u + 1) 0 < 256
+number-small true u h = omega arith
+number-small false u h = omega arith
 
 module _ (t : Table) (z : Sound t) where
   entry-small : (r : ℕ) → r ≤ many t → Small (entryFor t r)
@@ -429,13 +422,14 @@ module _ (t : Table) (z : Sound t) where
           let y = z .node (r - 1) q in
           let x = nodeAt t (r - 1) in
           let k = node-keeps t z (r - 1) q in
+          let o = operands-small t z (r - 1) q in
           record {
             kind = omega (arith, y .node);
-            arg = signal-small (usesOf (opOf (x .kind)) .arg) (x .arg) (y .arg .limited) (y .arg .unused);
+            arg = field-below 256 (y .arg) (omega arith) (omega arith);
             lo = omega (arith, k .ordered, k .limited);
             hi = omega (arith, k .limited);
-            left = operand-small (usesIn (x .kind) .left) (x .left) (λ u. omega (arith, (rw (node-uses (x .kind) (y .node)) at (y .left .limited)) u, z .few-nodes));
-            right = operand-small (usesIn (x .kind) .right) (x .right) (λ u. omega (arith, (rw (node-uses (x .kind) (y .node)) at (y .right .limited)) u, z .few-nodes));
+            left = number-small (usesIn (x .kind) .left) (x .left) (o .0);
+            right = number-small (usesIn (x .kind) .right) (x .right) (o .1);
             next = to;
             tail0 = omega arith;
             tail1 = omega arith;
@@ -443,13 +437,13 @@ module _ (t : Table) (z : Sound t) where
           }
       go false e false f =
           let q : r - 1 - t .«node_count» < t .«rule_count» = omega (arith, leb-false r (t .«node_count») f) in
-          let y = z .rule (r - 1 - t .«node_count») q in
+          let y = rule-small t z (r - 1 - t .«node_count») q in
           record {
             kind = omega arith;
-            arg = omega (arith, y .largest);
+            arg = omega (arith, y .0);
             lo = omega arith;
             hi = omega arith;
-            left = omega (arith, y .watched, z .few-nodes);
+            left = omega (arith, y .1);
             right = omega arith;
             next = to;
             tail0 = omega arith;
@@ -457,7 +451,7 @@ module _ (t : Table) (z : Sound t) where
             tail2 = omega arith;
           }
 
--- THE LAWS: the book of a sound table is bytes, and reads as the table
+-- THE LAWS: the book of a sound table is bytes, its chain is 1, 2, 3 up to the last record, and it reads as the table
 pub sound-bytes : (t : Table) → Sound t → Bytes (bookOf t)
 unfolding bookOf
 sound-bytes t z =
@@ -468,6 +462,10 @@ sound-bytes t z =
 pub sound-reads : (t : Table) → Sound t → reading (bookOf t) ≡ accepted t
 unfolding s
 sound-reads t z = book-reads t z
+
+pub sound-chain : (t : Table) → Sound t → Along (bookOf t) (0 ∷ []) (entryOf (bookOf t) 0 .next) (ticks suc (many t))
+unfolding s
+sound-chain t z = up-chain t z
 
 -- THE LAW: a table is sound exactly where some book of bytes yields it
 pub sound-exactly : (t : Table) → Sound t ↔ Yielded t

@@ -5,10 +5,11 @@ use Prim.Native.Nat.{ℕ, _+_, _*_}
 use Rattle.lists.specs.Sequence.{chain, padded}
 use Rattle.mltl.specs.Mltl.{delay}
 use Rattle.table.specs.Nodes.{noNode, noRule}
+use Rattle.table.specs.declared.Table.{Table}
 use Rattle.book.specs.declared.Entry.{Entry}
 use Rattle.book.specs.Entries.{usesIn}
 use Rattle.book.specs.Reading.{reading, headFault, fault, along, accepted, codeOf}
-use Rattle.book.specs.Writing.{bytes, headEntry}
+use Rattle.book.specs.Writing.{bytes, headEntry, bookOf}
 
 -- the fields of a record from its kind to its next
 abbrev entry : ℕ → ℕ → ℕ → ℕ → ℕ → ℕ → ℕ → Entry
@@ -22,16 +23,22 @@ book second name watched next = bytes (headEntry 1 ∷ entry 1 0 0 0 0 0 2 ∷ s
 abbrev finally : ℕ → ℕ → Entry
 finally lo hi = entry 7 0 lo hi 1 0 3
 
--- document 01's own book, and its table
-own-book : reading (book (finally 1 3) 7 2 0)
-    ≡ accepted (record {
-      nodes = padded noNode 64 (record { kind = 1; arg = 0; lo = 0; hi = 0; left = 0; right = 0 } ∷ record { kind = 7; arg = 0; lo = 1; hi = 3; left = 0; right = 0 } ∷ []);
-      «node_count» = 2;
-      rules = padded noRule 8 (record { name = 7; watched = 1 } ∷ []);
-      «rule_count» = 1;
-    })
+-- document 01's own book, its table, and the book that is written of the table
+abbrev ownTable : Table
+ownTable = record {
+  nodes = padded noNode 64 (record { kind = 1; arg = 0; lo = 0; hi = 0; left = 0; right = 0 } ∷ record { kind = 7; arg = 0; lo = 1; hi = 3; left = 0; right = 0 } ∷ []);
+  «node_count» = 2;
+  rules = padded noRule 8 (record { name = 7; watched = 1 } ∷ []);
+  «rule_count» = 1;
+}
+
+own-book : reading (book (finally 1 3) 7 2 0) ≡ accepted ownTable
 unfolding reading headFault fault along usesIn chain delay
 own-book = refl
+
+own-written : bookOf ownTable ≡ book (finally 1 3) 7 2 0
+unfolding bookOf usesIn
+own-written = refl
 
 -- ---- the corners of document 01
 delay-4095 : codeOf (reading (book (finally 0 4095) 7 2 0)) ≡ 0

@@ -15,9 +15,13 @@ mod Accepts
 -- the table of an accepted book is sound
 pub mod Sound
 -- the bytes of a book that is made of records
-mod Written
+mod Records
+-- the laws of the writer
+mod Writes
 -- each sound table has a book
 mod Complete
+-- a written book is read back
+pub mod Back
 -- only what is read of a book matters
 mod Chain
 -- books and what reading them yields

@@ -6,7 +6,9 @@ pub mod Reading
 pub mod Keeps
 -- the chain, and how far a book is read
 pub mod Chain
--- the book of a table
+-- the book of a table, and what writing it answers and leaves
 pub mod Writing
+-- what is relied on of writing: a written book is read back
+pub mod Back
 -- what only the steps of the code are about: no other crate names it
 pub mod Code

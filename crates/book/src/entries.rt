@@ -46,7 +46,7 @@ pub(crate) fn entry_of(s: &[u8], r: u8) -> Entry
 }
 
 // The fields that a kind uses.
-fn uses_in(kind: u8) -> Uses
+pub(crate) fn uses_in(kind: u8) -> Uses
     ensures { λ r. ⌜ r ≡ usesIn kind ⌝ }
 {
     if kind == 11 {

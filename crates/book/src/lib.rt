@@ -1,4 +1,4 @@
-// Reads a book, document 01's term for a list of rules in records of 12 bytes, into a table.
+// Reads a book, document 01's term for a list of rules in records of 12 bytes, into a table; and writes the book of a table.
 use limits::RECORD_BYTES;
 use table::Node;
 use table::Rule;
@@ -6,12 +6,14 @@ use table::Table;
 ghost use mathlib.Core.Path.{_≡_};
 ghost use Prim.Native.Nat.{_+_, _*_, _-_, _<_};
 ghost use mathlib.Core.Bool.{true};
-ghost use lib.ListN.{getD};
+ghost use lib.ListN.{length, getD};
 ghost use Rattle.lists.specs.Choice.{first};
 ghost use Rattle.book.specs.Reading.{refused, headFault, reading};
+ghost use Rattle.book.specs.Writing.{writing, writtenInto};
 ghost use Rattle.book.specs.Code.Steps.{entered, placeBy, nodeBy, ruleBy, badLink, recordRows, nodeStep, ruleStep, stepped, begun, walkEnded};
 
 mod entries;
+mod writer;
 
 // What a record of the book holds: its kind and the record that it links to, then the fields that its kind may use, where an operand
 // is the number of a record, and a tail that is to be zero.
@@ -233,4 +235,35 @@ pub fn read(book: &[u8]) -> Reading
         at = e.next;
     }
     end(w)
+}
+
+// ---- the book of a table
+
+// The number of a refusal and 0, or 0 and the length of the book in bytes.
+pub struct Writing {
+    pub number: u8,
+    pub length: usize,
+}
+
+// Writes the book of a sound table over the first places of an output that is long enough; or tells the number of the refusal, and writes
+// nothing.
+pub fn write(t: Table, out: &mut [u8]) -> Writing
+    ensures { λ r. ⌜ (r ≡ writing t (length (now (out .entry)))) × (now (out .exit) ≡ writtenInto t (now (out .entry))) ⌝ }
+{
+    if !table::sound(t) {
+        return Writing {
+            number: refusals::UNSOUND,
+            length: 0,
+        };
+    }
+    let behind = t.node_count + t.rule_count;
+    let length = RECORD_BYTES * (1 + behind);
+    if out.len() < length {
+        return Writing {
+            number: refusals::OUTPUT,
+            length: 0,
+        };
+    }
+    writer::put_records(t, out);
+    Writing { number: 0, length }
 }

@@ -1,17 +1,19 @@
--- Tables to bytes and back: `read-written`, that a sound table is what its bytes hold. Assumes nothing.
-use Prim.Native.Nat.{ℕ, _+_, _-_, _*_, _/_, _%_, _≤_, _<_}
+-- Tables to bytes and back: `read-written`, that a sound table is what its bytes hold; `bytes-back`, that bytes which hold one are its bytes. Assumes
+-- nothing.
+use Prim.Native.Nat.{ℕ, zero, suc, _+_, _-_, _*_, _/_, _%_, _≤_, _<_}
 use native.Mathlib.Omega.{arith}
 use mathlib.Core.Path.{_≡_, refl, sym, ap, subst, _∙_}
 use mathlib.Core.Bool.{true, false}
-use mathlib.Core.List.{List, _++_}
-use borrow.Author.Tests.{lt-ltb, le-ltb, le-leb, lt-leb, eq-eqb}
+use mathlib.Core.Logic.{⊎-elim}
+use mathlib.Core.List.{List, _++_, append-nil}
+use borrow.Author.Tests.{lt-ltb, le-ltb, le-leb, lt-leb, eqb-true, eq-eqb}
 use lib.Dec.{eqb}
-use lib.ListN.{length, getD, take, drop, set, take-append-drop, length-append, length-drop, List·getD-append}
-use lib.Seq.{ext-getD, getD-take, take-at, drop-at, drop-drop}
+use lib.ListN.{length, getD, take, drop, set, take-append-drop, length-append, drop-of-length-le, List·getD-append}
+use lib.Seq.{ext-getD, getD-take, take-at}
 use Rattle.lists.specs.Sequence.{ticks, pairAt}
-use Rattle.lists.proofs.Tests.{_also_}
+use Rattle.lists.proofs.Tests.{true-left, true-right, true-or-false, lt-or-le, _also_}
 use Rattle.lists.proofs.Loops.{Over, over-start, over-more}
-use Rattle.lists.proofs.Sequences.{length-ticks, getD-ticks, ticks-ext}
+use Rattle.lists.proofs.Sequences.{length-ticks, getD-ticks, ticks-ext, drop-past, length-past}
 use Rattle.table.specs.declared.Node.{Node}
 use Rattle.table.specs.declared.Rule.{Rule}
 use Rattle.table.specs.declared.Table.{Table}
@@ -98,11 +100,9 @@ module _ (f : ℕ → ℕ) (xs : List ℕ) where
   pub over-on : {out last : List ℕ} (i m : ℕ) → i + m ≤ length xs → Over f xs out i → last ≡ ticks f (i + m) ++ drop (i + m) out
       → Over f xs last (i + m)
   over-on {out} {last} i m h o e =
-      let d : drop (i + m) out ≡ drop (i + m) xs =
-      ap (drop (i + m)) (o .is) ∙ sym (drop-drop m i (ticks f i ++ drop i xs))
-      ∙ ap (drop m) (drop-at (ticks f i) (drop i xs) i (length-ticks f i)) ∙ drop-drop m i xs in
+      let d : drop (i + m) out ≡ drop (i + m) xs = ap (drop (i + m)) (o .is) ∙ drop-past (ticks f i) xs i (length-ticks f i) m in
       let is : last ≡ ticks f (i + m) ++ drop (i + m) xs = e ∙ ap (λ (l : List ℕ). ticks f (i + m) ++ l) d in
-      record { is = is; long = ap length is ∙ length-append (ticks f (i + m)) (drop (i + m) xs) ∙ omega (arith, length-ticks f (i + m), length-drop (i + m) xs) }
+      record { is = is; long = ap length is ∙ length-past (ticks f (i + m)) xs (i + m) (length-ticks f (i + m)) h }
 
 module _ (t : Table) (xs : List ℕ) (h : 546 ≤ length xs) where
   abbrev counted : List ℕ
@@ -206,7 +206,88 @@ module _ (t : Table) (rest : List ℕ) where
 module _ (t : Table) (b : List ℕ) (h : 546 ≤ length b) where
   pub length-written : length (written t b) ≡ length b
   length-written =
-      ap length (written-is t b h) ∙ length-append (bytesHolding t) (drop 546 b) ∙ omega (arith, length-ticks (tableByte t) 546, length-drop 546 b)
+      ap length (written-is t b h) ∙ length-past (bytesHolding t) b 546 (length-ticks (tableByte t) 546) h
+
+  pub written-all : length b ≡ 546 → written t b ≡ bytesHolding t
+  written-all e = written-is t b h ∙ ap (λ (r : List ℕ). bytesHolding t ++ r) (drop-of-length-le b {i = 546} (omega arith)) ∙ append-nil (bytesHolding t)
 
   pub table-back : Sound t → tableFrom (written t b) ≡ t
   table-back s = ap tableFrom (written-is t b h) ∙ read-written t (drop 546 b) s
+
+-- ---- bytes that hold a table are its bytes
+low : (x y : ℕ) → x < 256 → (x + 256 * y) % 256 ≡ x
+low x y h = omega arith
+
+high : (x y : ℕ) → x < 256 → (x + 256 * y) / 256 ≡ y
+high x y h = omega arith
+
+sound-unpadded : (b : List ℕ) → 546 ≤ length b → Sound (tableFrom b) → unpadded b ≡ true
+sound-unpadded b h z =
+    ⊎-elim (λ e. e) (λ e. let n : Sound noTable = subst Sound (sym (from-padded b h e)) z in absurd (omega (arith, n .some-rule)))
+    (true-or-false (unpadded b))
+
+module _ (b : List ℕ) (byte : (j : ℕ) → j < 546 → byteAt b j < 256) where
+  node-in : (i k : ℕ) → i < 64 → k < 8 → nodeByte (nodeFrom b i) k ≡ byteAt b (2 + 8 * i + k)
+  node-in i zero h l = ap (byteAt b) (omega arith)
+  node-in i (suc zero) h l = refl
+  node-in i (suc (suc zero)) h l = low _ (byteAt b (2 + 8 * i + 2 + 1)) (byte (2 + 8 * i + 2) (omega arith))
+  node-in i (suc (suc (suc zero))) h l = high (byteAt b (2 + 8 * i + 2)) _ (byte (2 + 8 * i + 2) (omega arith)) ∙ ap (byteAt b) (omega arith)
+  node-in i (suc (suc (suc (suc zero)))) h l = low _ (byteAt b (2 + 8 * i + 4 + 1)) (byte (2 + 8 * i + 4) (omega arith))
+  node-in i (suc (suc (suc (suc (suc zero))))) h l = high (byteAt b (2 + 8 * i + 4)) _ (byte (2 + 8 * i + 4) (omega arith)) ∙ ap (byteAt b) (omega arith)
+  node-in i (suc (suc (suc (suc (suc (suc zero)))))) h l = refl
+  node-in i (suc (suc (suc (suc (suc (suc (suc zero))))))) h l = refl
+  node-in i (suc (suc (suc (suc (suc (suc (suc (suc k)))))))) h l = absurd (omega arith)
+
+  -- the byte behind a rule is zero
+  behind : unpadded b ≡ true → (i : ℕ) → i < 8 → byteAt b (514 + 4 * i + 3) ≡ 0
+  behind u zero h = eqb-true _ 0 (search (true-left, true-right) depth 12)
+  behind u (suc zero) h = eqb-true _ 0 (search (true-left, true-right) depth 12)
+  behind u (suc (suc zero)) h = eqb-true _ 0 (search (true-left, true-right) depth 12)
+  behind u (suc (suc (suc zero))) h = eqb-true _ 0 (search (true-left, true-right) depth 12)
+  behind u (suc (suc (suc (suc zero)))) h = eqb-true _ 0 (search (true-left, true-right) depth 12)
+  behind u (suc (suc (suc (suc (suc zero))))) h = eqb-true _ 0 (search (true-left, true-right) depth 12)
+  behind u (suc (suc (suc (suc (suc (suc zero)))))) h = eqb-true _ 0 (search (true-left, true-right) depth 12)
+  behind u (suc (suc (suc (suc (suc (suc (suc zero))))))) h = eqb-true _ 0 (search (true-left, true-right) depth 12)
+  behind u (suc (suc (suc (suc (suc (suc (suc (suc i)))))))) h = absurd (omega arith)
+
+  rule-in : unpadded b ≡ true → (i k : ℕ) → i < 8 → k < 4 → ruleByte (ruleFrom b i) k ≡ byteAt b (514 + 4 * i + k)
+  rule-in u i zero h l = low _ (byteAt b (514 + 4 * i + 1)) (byte (514 + 4 * i) (omega arith)) ∙ ap (byteAt b) (omega arith)
+  rule-in u i (suc zero) h l = high (byteAt b (514 + 4 * i)) _ (byte (514 + 4 * i) (omega arith))
+  rule-in u i (suc (suc zero)) h l = refl
+  rule-in u i (suc (suc (suc zero))) h l = sym (behind u i h)
+  rule-in u i (suc (suc (suc (suc k)))) h l = absurd (omega arith)
+
+  -- the table as the bytes hold it
+  abbrev held : Table
+  held = record { nodes = ticks (nodeFrom b) 64; «node_count» = byteAt b 0; rules = ticks (ruleFrom b) 8; «rule_count» = byteAt b 1 }
+
+  count-byte : (j : ℕ) → j < 2 → tableByte held j ≡ byteAt b j
+  count-byte zero h = omega (arith, byte 0 (omega arith))
+  count-byte (suc zero) h = omega (arith, byte 1 (omega arith))
+  count-byte (suc (suc j)) h = absurd (omega arith)
+
+  held-byte : unpadded b ≡ true → (j : ℕ) → j < 546 → tableByte held j ≡ byteAt b j
+  held-byte u j h =
+      ⊎-elim (λ c. count-byte j c)
+      (λ c. ⊎-elim
+      (λ d.
+      let i : ℕ = (j - 2) / 8 in
+      let k : ℕ = (j - 2) % 8 in
+      let e : j ≡ 2 + 8 * i + k = omega arith in
+      node-byte held i k j (omega arith) (omega arith) e ∙ ap (λ (n : Node). nodeByte n k) (getD-ticks (nodeFrom b) 64 i noNode (omega arith))
+      ∙ node-in i k (omega arith) (omega arith) ∙ ap (byteAt b) (sym e))
+      (λ d.
+      let i : ℕ = (j - 514) / 4 in
+      let k : ℕ = (j - 514) % 4 in
+      let e : j ≡ 514 + 4 * i + k = omega arith in
+      rule-byte held i k j (omega arith) (omega arith) e ∙ ap (λ (r : Rule). ruleByte r k) (getD-ticks (ruleFrom b) 8 i noRule (omega arith))
+      ∙ rule-in u i k (omega arith) (omega arith) ∙ ap (byteAt b) (sym e))
+      (lt-or-le j 514)) (lt-or-le j 2)
+
+  -- THE LAW: bytes that hold a sound table are what `write_table` writes
+  pub bytes-back : length b ≡ 546 → Sound (tableFrom b) → bytesHolding (tableFrom b) ≡ b
+  bytes-back size z =
+      let u = sound-unpadded b (omega arith) z in
+      ap bytesHolding (sym (from-bytes b (omega arith) u))
+      ∙ ext-getD 0 (bytesHolding held) b (length-ticks (tableByte held) 546 ∙ sym size)
+      (λ j h. let l : j < 546 = omega (arith, length-ticks (tableByte held) 546) in getD-ticks (tableByte held) 546 j 0 l ∙ held-byte u j l)

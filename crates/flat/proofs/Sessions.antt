@@ -5,7 +5,7 @@ use native.Mathlib.Nat.{add-zero, div-div-eq-div-mul}
 use native.Mathlib.Omega.{arith}
 use mathlib.Core.Path.{_≡_, sym, ap, _∙_}
 use mathlib.Core.List.{List, _++_}
-use lib.ListN.{length, getD, take, drop, set, length-append, length-drop, length-set, take-append-drop}
+use lib.ListN.{length, getD, take, drop, set, length-set, take-append-drop}
 use lib.Seq.{getD-set-same, getD-set-other, take-set-le, take-at}
 use borrow.Author.Tests.{eq-eqb, ne-eqb}
 use Rattle.lists.proofs.Sequences.{length-ticks}
@@ -13,7 +13,7 @@ use Rattle.table.specs.declared.Table.{Table}
 use Rattle.table.specs.Nodes.{noTable}
 use Rattle.table.specs.Sound.{Sound}
 use Rattle.flat.specs.Flat.{tableByte, bytesHolding, tableFrom, written}
-use Rattle.flat.proofs.Laws.{read-written, written-is, same-table}
+use Rattle.flat.proofs.Laws.{read-written, written-is, length-written, same-table}
 use Rattle.session.specs.declared.Session.{Session}
 use Rattle.session.specs.Session.{withSeen}
 use Rattle.flat.specs.Sessions.{fourAt, putFour, sessionFrom, sessionWritten, renewed}
@@ -94,6 +94,16 @@ module _ (b : List ℕ) {rule seen high : ℕ} (p : rule ≡ fourAt b 546) (q : 
   from-few n e = rw (e, p, q, eq-eqb (fourAt b 554) 0 (sym h ∙ n))
 
 -- ---- back from bytes
+-- the table's bytes come first
+pub table-first : (s : Session) (b : List ℕ) → 546 ≤ length b → take 546 (sessionWritten s b) ≡ bytesHolding (s .table)
+unfolding sessionWritten
+table-first s b h =
+    let w : List ℕ = written (s .table) b in
+    let p₁ : List ℕ = putFour w 546 (s .rule % 4294967296) in
+    let p₂ : List ℕ = putFour p₁ 550 (s .seen) in
+    take-four p₂ 554 0 546 (omega arith) ∙ take-four p₁ 550 (s .seen) 546 (omega arith) ∙ take-four w 546 (s .rule % 4294967296) 546 (omega arith)
+    ∙ ap (take 546) (written-is (s .table) b h) ∙ take-at (bytesHolding (s .table)) (drop 546 b) 546 (length-ticks (tableByte (s .table)) 546)
+
 pub session-back : (s : Session) (b : List ℕ) → length b ≡ 558 → Sound (s .table) → s .rule < 4294967296 → s .seen < 4294967296
     → sessionFrom (sessionWritten s b) ≡ s
 unfolding sessionFrom sessionWritten
@@ -103,21 +113,15 @@ session-back s b l t r n =
     let p₁ : List ℕ = putFour w 546 rule in
     let p₂ : List ℕ = putFour p₁ 550 (s .seen) in
     let p₃ : List ℕ = putFour p₂ 554 0 in
-    let tb : List ℕ = bytesHolding (s .table) in
-    let lt : length tb ≡ 546 = length-ticks (tableByte (s .table)) 546 in
-    let is : w ≡ tb ++ drop 546 b = written-is (s .table) b (omega arith) in
-    let lw : length w ≡ 558 = ap length is ∙ length-append tb (drop 546 b) ∙ omega (arith, lt, length-drop 546 b) in
+    let lw : length w ≡ 558 = length-written (s .table) b (omega arith) ∙ l in
     let l₁ : length p₁ ≡ 558 = length-four w 546 rule ∙ lw in
     let l₂ : length p₂ ≡ 558 = length-four p₁ 550 (s .seen) ∙ l₁ in
     let high : fourAt p₃ 554 ≡ 0 = four-same p₂ 554 0 (omega arith) (omega arith) in
     let seen : fourAt p₃ 550 ≡ s .seen = four-before p₂ 554 0 550 (omega arith) ∙ four-same p₁ 550 (s .seen) (omega arith) n in
     let rules : fourAt p₃ 546 ≡ s .rule =
     four-before p₂ 554 0 546 (omega arith) ∙ four-before p₁ 550 (s .seen) 546 (omega arith) ∙ four-same w 546 rule (omega arith) (omega arith) ∙ omega arith in
-    let first : take 546 p₃ ≡ tb =
-    take-four p₂ 554 0 546 (omega arith) ∙ take-four p₁ 550 (s .seen) 546 (omega arith) ∙ take-four w 546 rule 546 (omega arith) ∙ ap (take 546) is
-    ∙ take-at tb (drop 546 b) 546 lt in
     let table : tableFrom p₃ ≡ s .table =
-    ap tableFrom (sym (take-append-drop 546 p₃) ∙ ap (λ (i : List ℕ). i ++ drop 546 p₃) first) ∙ read-written (s .table) (drop 546 p₃) t in
+    ap tableFrom (sym (take-append-drop 546 p₃) ∙ ap (λ (i : List ℕ). i ++ drop 546 p₃) (table-first s b (omega arith))) ∙ read-written (s .table) (drop 546 p₃) t in
     rw (eq-eqb (fourAt p₃ 554) 0 high) (λ i. record { table = table i; rule = rules i; seen = seen i })
 
 pub renewed-back : (b : List ℕ) (n : ℕ) → length b ≡ 558 → n < 4294967296 → sessionFrom (renewed n b) ≡ withSeen (sessionFrom b) n

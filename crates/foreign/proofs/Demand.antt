@@ -7,7 +7,7 @@ use mathlib.Core.Bool.{Bool, true, false}
 use mathlib.Core.List.{List, [], _∷_, _++_, map, map-append}
 use borrow.Author.Tests.{eq-eqb, ne-eqb, eqb-true, eqb-false}
 use lib.Dec.{eqb}
-use lib.ListN.{length}
+use lib.ListN.{length, take}
 use Rattle.lists.specs.Choice.{someFits}
 use Rattle.lists.proofs.Rows.{first-within}
 use Rattle.lists.proofs.Tests.{true-or-false}
@@ -22,8 +22,8 @@ use Rattle.session.proofs.Answers.{feed-fits}
 use Rattle.session.proofs.Effects.{opened-is, opened-rule, opened-sound, feed-number, feed-accepted, feed-refused, close-number, close-accepted, close-refused}
 use Rattle.flat.specs.Flat.{tableFrom, written}
 use Rattle.flat.specs.Sessions.{sessionFrom, sessionWritten}
-use Rattle.flat.proofs.Laws.{length-written, table-back}
-use Rattle.flat.proofs.Sessions.{session-back, renewed-back}
+use Rattle.flat.proofs.Laws.{length-written, written-all, table-back}
+use Rattle.flat.proofs.Sessions.{table-first, session-back, renewed-back}
 use Rattle.juntreak.specs.Answers.{counted, Called}
 use Rattle.acts.specs.Claim.{Claim}
 use Rattle.mission.specs.Calls.{Meets, statesFed, verdictsGiven}
@@ -172,10 +172,11 @@ module _ (m : Start) where
   simple-is : m .simple ≡ written u (m .table)
   simple-is = m .simplified .bytes ∙ rw (eq-eqb (m .simplified .answer .number) 0 (sym (m .simplified .told)))
 
+  table-long : length (m .table) ≡ 546
+  table-long = ap length table-is ∙ length-written t (m .old-table) (omega (arith, m .table-size)) ∙ m .table-size
+
   held-simple : tableFrom (m .simple) ≡ u
-  held-simple =
-      let l : length (m .table) ≡ 546 = ap length table-is ∙ length-written t (m .old-table) (omega (arith, m .table-size)) ∙ m .table-size in
-      ap tableFrom simple-is ∙ table-back u (m .table) (omega arith) (sound-iff u .0 (better .sound))
+  held-simple = ap tableFrom simple-is ∙ table-back u (m .table) (omega (arith, table-long)) (sound-iff u .0 (better .sound))
 
   opens : opening u (m .rule) .number ≡ 0
   opens = sym (ap (λ (x : Table). opening x (m .rule) .number) held-simple) ∙ sym (m .opened)
@@ -192,16 +193,24 @@ module _ (m : Start) where
     history = m .history;
   }
 
+  session-is : m .session ≡ sessionWritten (record { table = u; rule = m .rule; seen = 0 }) (m .old-session)
+  session-is =
+      m .was-opened
+      ∙ rw (held-simple, eq-eqb (opening u (m .rule) .number) 0 opens) (ap (λ (x : Session). sessionWritten x (m .old-session)) (opened-is u (m .rule) opens))
+
   held-session : sessionFrom (m .session) ≡ mission.sessionOf start-is
   held-session =
-      let w : m .session ≡ sessionWritten (opening u (m .rule) .session) (m .old-session) =
-      m .was-opened ∙ rw (held-simple, eq-eqb (opening u (m .rule) .number) 0 opens) in
-      let o = opened-is u (m .rule) opens in
       let k = opened-rule u (m .rule) opens in
       let d = opened-sound u (m .rule) opens in
-      ap sessionFrom (w ∙ ap (λ (x : Session). sessionWritten x (m .old-session)) o)
+      ap sessionFrom session-is
       ∙ session-back (record { table = u; rule = m .rule; seen = 0 }) (m .old-session) (m .session-size) d (omega (arith, d .few-rules)) (omega arith)
-      ∙ sym o
+      ∙ sym (opened-is u (m .rule) opens)
+
+  -- the session's bytes begin with those of the simplified table
+  pub session-first : take 546 (m .session) ≡ m .simple
+  session-first =
+      ap (take 546) session-is ∙ table-first (record { table = u; rule = m .rule; seen = 0 }) (m .old-session) (omega (arith, m .session-size))
+      ∙ sym (simple-is ∙ written-all u (m .table) (omega (arith, table-long)) table-long)
 
   of-mission : {cs : List Call} {b h : List ℕ} {ended : Bool} → Calls (m .session) (m .history) cs b h ended
       → calls.Calls (mission.sessionOf start-is) (m .history) (map asCall cs) (sessionFrom b) h ended

@@ -2,3 +2,5 @@
 mod Demand
 -- early answers
 pub mod Early
+-- written books
+pub mod Written

@@ -2,3 +2,5 @@
 pub mod Demand
 -- early answers
 pub mod Early
+-- written books
+pub mod Written

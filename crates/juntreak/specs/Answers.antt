@@ -6,6 +6,7 @@ use lib.Dec.{eqb}
 use Rattle.lists.specs.Choice.{pick}
 use Rattle.interval.specs.declared.Splitting.{Splitting}
 use Rattle.table.specs.declared.RuleDelay.{RuleDelay}
+use Rattle.book.specs.declared.Writing.{Writing}
 use Rattle.text.specs.declared.Typed.{Typed}
 use Rattle.flat.specs.Flat.{tableFrom, written}
 use Rattle.flat.specs.Sessions.{renewed}
@@ -27,6 +28,10 @@ maxPlace = 72057594037927935
 -- the number of a refusal and, above it, its place or line
 abbrev pub textAnswer : Typed → ℕ
 textAnswer x = x .number + 256 * min (x .place) maxPlace
+
+-- the number of a refusal and, above it, the length of a book in bytes
+abbrev pub writeAnswer : Writing → ℕ
+writeAnswer w = w .number + 65536 * w .length
 
 -- the number of a refusal and, above it, the delay
 abbrev pub delayAnswer : RuleDelay → ℕ

@@ -1,16 +1,18 @@
 // The interface for programs in other languages: include/juntreak.h declares each function. A table is 546 bytes, a session 558. A refused
 // call writes nothing.
 ghost use mathlib.Core.Path.{_≡_};
+ghost use lib.ListN.{length};
 ghost use Rattle.interval.specs.Parts.{splitting};
 ghost use Rattle.table.specs.Sound.{ruleDelay};
 ghost use Rattle.book.specs.Reading.{reading, codeOf};
+ghost use Rattle.book.specs.Writing.{writing, writtenInto};
 ghost use Rattle.text.specs.Typing.{typed};
 ghost use Rattle.verdict.specs.Verdict.{Answered};
 ghost use Rattle.early.specs.Early.{toldBy, earlyTold, earlyScratch};
 ghost use Rattle.session.specs.Session.{opening, feeding, closing};
 ghost use Rattle.flat.specs.Flat.{tableFrom, written};
 ghost use Rattle.flat.specs.Sessions.{sessionFrom, sessionWritten};
-ghost use Rattle.juntreak.specs.Answers.{leaves, textAnswer, delayAnswer, splitAnswer, earlyAnswer, Simplifies, counted, Called};
+ghost use Rattle.juntreak.specs.Answers.{leaves, textAnswer, writeAnswer, delayAnswer, splitAnswer, earlyAnswer, Simplifies, counted, Called};
 use book::Reading;
 use early::Decision;
 use limits::MAX_PARTS;
@@ -102,6 +104,16 @@ pub extern "C" fn juntreak_read_text(text: &[u8], table: &mut [u8; TABLE_BYTES])
     let answer = text::read(text);
     put_table(answer.number, answer.table, table);
     text_code(answer)
+}
+
+// The book of the table: 0 and 65536 times its length in bytes, or the number of the refusal.
+#[no_mangle]
+pub extern "C" fn juntreak_write(table: &[u8; TABLE_BYTES], out: &mut [u8]) -> u32
+    ensures { λ r. ⌜ (r ≡ writeAnswer (writing (tableFrom (now (table .entry))) (length (now (out .entry))))) × (now (out .exit) ≡ writtenInto (tableFrom (now (table .entry))) (now (out .entry))) ⌝ }
+{
+    let t = flat::read_table(table);
+    let w = book::write(t, out);
+    w.number as u32 + 65536 * (w.length as u32)
 }
 
 // The delay of a rule of the table.

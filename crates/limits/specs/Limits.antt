@@ -34,6 +34,10 @@ maxRecords = 255
 abbrev pub bookBytes : ℕ
 bookBytes = maxRecords * recordBytes
 
+-- the longest book that is written: the head, and a record for each node and each rule
+abbrev pub writtenBytes : ℕ
+writtenBytes = (1 + maxNodes + maxRules) * recordBytes
+
 -- ---- typed rules
 -- the most brackets that may be open at once
 abbrev pub maxDepth : ℕ

@@ -25,6 +25,9 @@ pub const MAX_RECORDS: usize = 255;
 
 pub const BOOK_BYTES: usize = MAX_RECORDS * RECORD_BYTES;
 
+// The longest book that is written: the head, and a record for each node and each rule.
+pub const WRITTEN_BYTES: usize = (1 + MAX_NODES + MAX_RULES) * RECORD_BYTES;
+
 // ---- typed rules
 
 // The most brackets that may be open at once.

@@ -46,6 +46,11 @@ NAME = 10
 abbrev pub RULELESS : ℕ
 RULELESS = 11
 
+-- ---- written books
+-- an output that is too short for the book
+abbrev pub OUTPUT : ℕ
+OUTPUT = 34
+
 -- ---- typed rules, told with a place in the text
 -- a byte, or the end of the text, that no line has there
 abbrev pub SYNTAX : ℕ

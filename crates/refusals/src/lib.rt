@@ -24,6 +24,10 @@ pub const NAME: u8 = 10;
 
 pub const RULELESS: u8 = 11;
 
+// ---- written books
+
+pub const OUTPUT: u8 = 34;
+
 // ---- typed rules
 
 pub const SYNTAX: u8 = 32;

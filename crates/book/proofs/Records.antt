@@ -4,6 +4,7 @@ use mathlib.Core.Bool.{Bool, true, false, _||_, false≢true}
 use mathlib.Core.List.{List, [], _∷_, _++_}
 use mathlib.Core.Logic.{inl, inr, ⊎-elim}
 use Prim.Native.Nat.{ℕ, zero, suc, _+_, _*_, _/_, _%_, _<_}
+use native.Mathlib.Numerals.{add-one}
 use native.Mathlib.Omega.{arith}
 use borrow.Author.Tests.{eqb-true, lt-ltb, le-ltb, ne-eqb}
 use lib.Dec.{ltb, eqb}
@@ -90,9 +91,13 @@ pub among-ups : (r k : ℕ) → among r (ups k) ≡ ltb r k
 among-ups r zero = rw (listed-none (λ i. i)) (sym (le-ltb r 0 (omega arith)))
 among-ups r (suc k) = rw (listed-more (λ i. i) k) (among-snoc r (ups k) k ∙ rw (among-ups r k) (up-one r k))
 
-pub among-ones : (o k : ℕ) → among (suc o) (ones k) ≡ ltb o k
+among-ones : (o k : ℕ) → among (suc o) (ones k) ≡ ltb o k
 among-ones o zero = rw (listed-none suc) (sym (le-ltb o 0 (omega arith)))
 among-ones o (suc k) = rw (listed-more suc k) (among-snoc (suc o) (ones k) (suc k) ∙ rw (among-ones o k, eqb-suc o k) (up-one o k))
+
+-- the record of the place o
+pub among-records : (o k : ℕ) → among (o + 1) (ones k) ≡ ltb o k
+among-records o k = rw (add-one o) (among-ones o k)
 
 among-none : (k : ℕ) → among 0 (ones k) ≡ false
 among-none zero = rw (listed-none suc)
@@ -112,8 +117,8 @@ place-ones : (k o : ℕ) → o < k → place (ones k) (suc o) ≡ o
 place-ones k o h = rw (among-ones o k, lt-ltb o k h) (index-ones k o h)
 
 -- the place of an operand that a kind uses, and of one that it does not
-pub operand-place : (b : Bool) (k u : ℕ) → (b ≡ true → u < k) → (b ≡ false → u ≡ 0) → place (ones k) (pick b (suc u) 0) ≡ u
-operand-place true k u p q = place-ones k u (p refl)
+pub operand-place : (b : Bool) (k u : ℕ) → (b ≡ true → u < k) → (b ≡ false → u ≡ 0) → place (ones k) (pick b (u + 1) 0) ≡ u
+operand-place true k u p q = rw (add-one u) (place-ones k u (p refl))
 operand-place false k u p q = rw (among-none k) (sym (q refl))
 
 -- one of a list of numbers
