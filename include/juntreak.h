@@ -22,6 +22,7 @@ extern "C" {
 /* Sizes in bytes. */
 #define JUNTREAK_RECORD_BYTES 12   /* one record of a book */
 #define JUNTREAK_BOOK_BYTES 3060   /* the longest book */
+#define JUNTREAK_WRITTEN_BYTES 876 /* the longest book that is written */
 #define JUNTREAK_TABLE_BYTES 546   /* a table */
 #define JUNTREAK_SESSION_BYTES 558 /* a session */
 
@@ -79,7 +80,9 @@ enum {
     JUNTREAK_TICK = 31,     /* tick not below the states given */
     /* Typed rules, answered with a place in the text, from 0. */
     JUNTREAK_SYNTAX = 32,   /* a byte, or the text's end, that no line can have there */
-    JUNTREAK_DEEP = 33      /* an opening bracket that is fit there, but the 33rd open one */
+    JUNTREAK_DEEP = 33,     /* an opening bracket that is fit there, but the 33rd open one */
+    /* Written books. */
+    JUNTREAK_OUTPUT = 34    /* out too short for the book */
 };
 
 /* The values that juntreak_early answers. */
@@ -96,6 +99,9 @@ enum {
 /* of juntreak_read_text: the number, and the place (32, 33) or the line */
 #define JUNTREAK_TEXT_NUMBER(answer) ((uint32_t)((answer) % 256))
 #define JUNTREAK_TEXT_AT(answer) ((uint64_t)(answer) / 256)
+/* of juntreak_write: the number, and the length of the book in bytes */
+#define JUNTREAK_WRITE_NUMBER(answer) ((uint32_t)(answer) % 65536)
+#define JUNTREAK_WRITE_LENGTH(answer) ((uint32_t)(answer) / 65536)
 /* of juntreak_delay: the number, and the delay */
 #define JUNTREAK_DELAY_NUMBER(answer) ((uint32_t)(answer) % 65536)
 #define JUNTREAK_DELAY_TICKS(answer) ((uint32_t)(answer) / 65536)
@@ -179,6 +185,18 @@ uint32_t juntreak_read(const uint8_t *book, size_t n,
  * A place of 2^56 or more is told as 2^56 - 1. */
 uint64_t juntreak_read_text(const uint8_t *text, size_t n,
                             uint8_t table[JUNTREAK_TABLE_BYTES]);
+
+/* Writes the book of a table: the head, then all nodes in table order, then
+ * the rules, numbered and chained 1, 2, 3 up, with no spare records. n is the
+ * length of out, at least 12 * (1 + nodes + rules); JUNTREAK_WRITTEN_BYTES is
+ * always enough. Answers number + 65536 * length, numbers 0, 25, 34; the
+ * length is 0 if refused. If the number is 0, the first length bytes of out
+ * are the book, the others are unchanged, and reading the book yields the same
+ * table, byte for byte. A session's bytes begin with its table and can be
+ * given as the table: the book is then the one that the session runs,
+ * simplified if its table was. */
+uint32_t juntreak_write(const uint8_t table[JUNTREAK_TABLE_BYTES],
+                        uint8_t *out, size_t n);
 
 /* The delay of a rule. Answers number + 65536 * delay, numbers 0, 25, 21;
  * the delay is 0 if refused. */

@@ -12,6 +12,7 @@ mod raw {
         pub fn juntreak_check_book(book: *const u8, n: usize) -> u32;
         pub fn juntreak_read(book: *const u8, n: usize, table: *mut TableBytes) -> u32;
         pub fn juntreak_read_text(text: *const u8, n: usize, table: *mut TableBytes) -> u64;
+        pub fn juntreak_write(table: *const TableBytes, out: *mut u8, n: usize) -> u32;
         pub fn juntreak_delay(table: *const TableBytes, rule: u32) -> u32;
         pub fn juntreak_split(lo: u16, hi: u16, parts: *mut Parts) -> u32;
         pub fn juntreak_verdicts(table: *const TableBytes, rule: u32, states: *const u32, n: usize, scratch: *mut u64, x: usize, out: *mut u64, o: usize) -> u32;
@@ -38,6 +39,12 @@ pub fn read(book: &[u8], table: &mut TableBytes) -> (u32, u8) {
 pub fn read_text(text: &[u8], table: &mut TableBytes) -> (u32, usize) {
     let r = unsafe { raw::juntreak_read_text(text.as_ptr(), text.len(), table) };
     ((r % 256) as u32, (r / 256) as usize)
+}
+
+/// The number and the length.
+pub fn write(table: &TableBytes, out: &mut [u8]) -> (u32, usize) {
+    let r = unsafe { raw::juntreak_write(table, out.as_mut_ptr(), out.len()) };
+    (r % 65536, (r / 65536) as usize)
 }
 
 /// The number and the delay.

@@ -1,8 +1,9 @@
 //! Random numbers, tables, books, typed rules and traces.
-use crate::header::limits::{MAX_DEPTH, MAX_RECORDS, MAX_RULES, MAX_SIGNAL, RECORD_BYTES, TABLE_BYTES};
+use crate::header::limits::{MAX_DEPTH, MAX_NODES, MAX_RECORDS, MAX_RULES, MAX_SIGNAL, NODE_COUNT_AT, RECORD_BYTES, RULE_COUNT_AT, TABLE_BYTES};
 use crate::header::places::rule_at;
 use crate::model::{law_at, sound, unused, Node, Rule, Table};
 use crate::typed::{depth, tokens, Line, Part};
+use crate::written::{node_record, rule_record, NEXT};
 
 /// SplitMix64.
 pub struct Random(pub u64);
@@ -153,27 +154,12 @@ pub fn book(r: &mut Random, t: &Table) -> Vec<u8> {
     let mut record_of = vec![0u8; t.nodes.len()];
     let mut before = 0usize;
     for (k, (is_node, i)) in order.iter().enumerate() {
-        let at = places[k];
-        b[before * RECORD_BYTES + 8] = at;
-        let e = &mut b[at as usize * RECORD_BYTES..][..RECORD_BYTES];
-        e.fill(0);
+        let (at, record) = (places[k], |place: u8| record_of[place as usize]);
+        let e = if *is_node { node_record(&t.nodes[*i], record) } else { rule_record(&t.rules[*i], record) };
+        b[before * RECORD_BYTES + NEXT] = at;
+        b[at as usize * RECORD_BYTES..][..RECORD_BYTES].copy_from_slice(&e);
         if *is_node {
-            let n = &t.nodes[*i];
             record_of[*i] = at;
-            e[0] = n.kind;
-            e[1] = n.arg;
-            e[2..4].copy_from_slice(&n.lo.to_le_bytes());
-            e[4..6].copy_from_slice(&n.hi.to_le_bytes());
-            if n.kind >= 4 {
-                e[6] = record_of[n.left as usize];
-            }
-            if matches!(n.kind, 5 | 6 | 9 | 10) {
-                e[7] = record_of[n.right as usize];
-            }
-        } else {
-            e[0] = 11;
-            e[1] = t.rules[*i].name as u8;
-            e[6] = record_of[t.rules[*i].watched as usize];
         }
         before = at as usize;
     }
@@ -218,11 +204,11 @@ pub fn damage_book(r: &mut Random, b: &mut Vec<u8>) {
             b[i] = r.below(records as u64 + 1) as u8;
         }
         7 | 8 => {
-            let i = at(8);
+            let i = at(NEXT);
             b[i] = r.pick(&[0, record as u8, (records - 1) as u8, records as u8, 255, 1]);
         }
         9 => {
-            let i = at(9 + r.below(3) as usize);
+            let i = at(NEXT + 1 + r.below(3) as usize);
             b[i] = 1;
         }
         10 => {
@@ -234,6 +220,11 @@ pub fn damage_book(r: &mut Random, b: &mut Vec<u8>) {
             b.extend(std::iter::repeat(0).take(n));
         }
     }
+}
+
+/// Bytes of dirt.
+pub fn bytes(r: &mut Random, n: usize) -> Vec<u8> {
+    words(r, n.div_ceil(8)).into_iter().flat_map(u64::to_le_bytes).take(n).collect()
 }
 
 /// Words of dirt.
@@ -257,6 +248,21 @@ pub fn damage(r: &mut Random, b: &mut [u8]) {
         };
         b[at] = r.pick(&[0, 1, 2, 8, 16, 63, 64, 255, r.0 as u8]);
     }
+}
+
+/// Bytes that may be no sound table's: those of a table with some changed, and now and then random ones.
+pub fn damaged_table(r: &mut Random, t: &Table) -> [u8; TABLE_BYTES] {
+    let mut bytes = t.bytes();
+    if r.chance(10) {
+        bytes.iter_mut().for_each(|b| *b = r.next() as u8);
+        if r.chance(2) {
+            // Counts that fit, so that the nodes are looked at.
+            (bytes[NODE_COUNT_AT], bytes[RULE_COUNT_AT]) = (1 + r.below(MAX_NODES as u64) as u8, 1 + r.below(MAX_RULES as u64) as u8);
+        }
+    } else {
+        damage(r, &mut bytes);
+    }
+    bytes
 }
 
 /// What a call for a rule is asked of: the bytes of a table, sound or not, and the number of a rule, there or not.

@@ -5,6 +5,7 @@ use juntreak_tests::header::refusals::{ABSENT, INTERVAL, LENGTH, LINK, LONG, OK,
 use juntreak_tests::library::{check_book, delay, read, split};
 use juntreak_tests::model;
 use juntreak_tests::random::{book, damage_book, table, Random};
+use juntreak_tests::written::{chained, Record, NEXT};
 
 /// Every answer about one book; returns the number of the refusal.
 fn compare(b: &[u8], dirt: u8) -> u32 {
@@ -23,20 +24,6 @@ fn compare(b: &[u8], dirt: u8) -> u32 {
         }
     }
     number
-}
-
-type Record = [u8; RECORD_BYTES];
-
-/// A book chained 1, 2, 3 up of the given records.
-fn chained(records: &[Record]) -> Vec<u8> {
-    let mut b = vec![0u8; RECORD_BYTES];
-    b[8] = 1;
-    for (i, e) in records.iter().enumerate() {
-        let mut e = *e;
-        e[8] = if i + 1 < records.len() { i as u8 + 2 } else { 0 };
-        b.extend(e);
-    }
-    b
 }
 
 const SIGNAL: Record = [1, 0, 0, 0, 0, 0, 0, 0, 0, 0, 0, 0];
@@ -93,8 +80,8 @@ fn every_length() {
         for x in b.iter_mut().take(RECORD_BYTES) {
             *x = 0;
         }
-        if n > 8 {
-            b[8] = r.below(6) as u8;
+        if n > NEXT {
+            b[NEXT] = r.below(6) as u8;
         }
         compare(&b, 2);
     }
@@ -104,7 +91,7 @@ fn every_length() {
 fn worked_examples() {
     let own = {
         let mut b = chained(&[SIGNAL, rule(1, 1)]);
-        b[RECORD_BYTES + 8] = 1;
+        b[RECORD_BYTES + NEXT] = 1;
         b
     };
     assert_eq!(check_book(&own), LINK + 256);

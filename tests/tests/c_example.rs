@@ -44,6 +44,11 @@ fn typed_rules_are_read_or_refused_with_a_place() {
 }
 
 #[test]
+fn the_book_of_a_session_is_written_and_read_back() {
+    assert_eq!(printed("write"), include_str!("../../examples/write.txt"));
+}
+
+#[test]
 fn the_rows_are_those_worked_by_hand() {
     assert_eq!(printed("rows"), include_str!("../../examples/rows.txt"));
 }

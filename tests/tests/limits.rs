@@ -7,9 +7,10 @@ use std::collections::{BTreeMap, BTreeSet};
 type Constants = BTreeMap<String, u64>;
 
 /// Every constant of the header.
-const VALUES: [(&str, u64); 48] = [
+const VALUES: [(&str, u64); 50] = [
     ("RECORD_BYTES", 12),
     ("BOOK_BYTES", 3060),
+    ("WRITTEN_BYTES", 876),
     ("TABLE_BYTES", 546),
     ("SESSION_BYTES", 558),
     ("HISTORY_WORDS", 4095),
@@ -53,6 +54,7 @@ const VALUES: [(&str, u64); 48] = [
     ("TICK", 31),
     ("SYNTAX", 32),
     ("DEEP", 33),
+    ("OUTPUT", 34),
     ("NO", 0),
     ("YES", 1),
     ("OPEN", 2),

@@ -8,17 +8,15 @@ use juntreak_tests::header::NUMBERS;
 use juntreak_tests::library::{self, close, feed, open, read, simplify, SessionBytes};
 use juntreak_tests::model::{self, Node, Rule, Session, Table};
 use juntreak_tests::random::{book, damage, redundant, short_words, table, trace, words, Random};
-use juntreak_tests::same;
+use juntreak_tests::{only_read, same};
 
 /// A feed and the model's, every byte and word compared.
 fn feed_compared(session: &mut SessionBytes, block: &[u32], history: &mut [u32], scratch: &mut [u64], out: &mut [u64]) -> (u32, u32) {
     let (mut s, mut h, mut x, mut o) = (*session, history.to_vec(), scratch.to_vec(), out.to_vec());
-    let block_before = block.to_vec();
     let wanted = model::feed(&mut s, block, &mut h, &mut x, &mut o);
-    let got = feed(session, block, history, scratch, out);
+    let got = only_read("block", block, |block| feed(session, block, history, scratch, out));
     assert_eq!(got, wanted);
     same("session", &session[..], &s[..]);
-    same("block", block, &block_before);
     same("history", history, &h);
     same("scratch", scratch, &x);
     same("out", out, &o);
@@ -27,12 +25,11 @@ fn feed_compared(session: &mut SessionBytes, block: &[u32], history: &mut [u32],
 
 /// A close and the model's, every byte and word compared.
 fn close_compared(session: &mut SessionBytes, history: &[u32], scratch: &mut [u64], out: &mut [u64]) -> (u32, u32) {
-    let (mut s, h, mut x, mut o) = (*session, history.to_vec(), scratch.to_vec(), out.to_vec());
-    let wanted = model::close(&mut s, &h, &mut x, &mut o);
-    let got = close(session, history, scratch, out);
+    let (mut s, mut x, mut o) = (*session, scratch.to_vec(), out.to_vec());
+    let wanted = model::close(&mut s, history, &mut x, &mut o);
+    let got = only_read("history", history, |history| close(session, history, scratch, out));
     assert_eq!(got, wanted);
     same("session", &session[..], &s[..]);
-    same("history", history, &h);
     same("scratch", scratch, &x);
     same("out", out, &o);
     got

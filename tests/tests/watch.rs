@@ -6,6 +6,7 @@ use juntreak_tests::model::{self, Node, Rule, Table};
 use juntreak_tests::place::{watch, Folder};
 use juntreak_tests::program::expected;
 use juntreak_tests::random::{book, damage_book, redundant, table, trace, Random};
+use juntreak_tests::written::NEXT;
 use std::fs::File;
 use std::io::{Read, Write};
 use std::os::unix::process::ExitStatusExt;
@@ -459,7 +460,7 @@ fn refused_books() {
     let books = [
         (LENGTH, WORKED[..47].to_vec()),
         (HEAD, head(0, 1)),
-        (LINK, head(8, 4)),
+        (LINK, head(NEXT, 4)),
         (FORM, head(12, 12)),
         (ARGUMENT, head(13, MAX_SIGNAL as u8 + 1)),
         (INTERVAL, head(29, 16)),
@@ -479,7 +480,7 @@ fn refused_books() {
     assert_ne!(compare(&long(MAX_DELAY as u16 - 1), b"0\n"), format!("book {LONG} 3\n").into_bytes());
     for record in [1, 9, 10, 99, 100, 199, 200, 254] {
         let mut b = vec![0; BOOK_BYTES];
-        b[8] = record;
+        b[NEXT] = record;
         b[RECORD_BYTES * record as usize] = 12;
         assert_eq!(compare(&b, b"1\n"), format!("book {FORM} {record}\n").into_bytes());
     }
