@@ -430,7 +430,6 @@ fn call(r: &mut Random, bytes: &TableBytes, rule: u32, states: &[u32], tick: usi
 #[test]
 fn refusals_and_their_order() {
     let mut r = Random(47);
-    let mut seen = [0u32; NUMBERS];
     for _ in 0..40 {
         for case in 0..32u32 {
             let is = |bit: u32| case >> bit & 1 == 1;
@@ -447,11 +446,7 @@ fn refusals_and_their_order() {
             let wanted = [UNSOUND, ABSENT, STATES, BUFFER, TICK].into_iter().enumerate().find(|(bit, _)| is(*bit as u32)).map_or(OK, |row| row.1);
             assert_eq!(number, wanted);
             assert!(number == OK || value == NO);
-            seen[number as usize] += 1;
         }
-    }
-    for number in [OK, ABSENT, STATES, BUFFER, TICK, UNSOUND] {
-        assert!(seen[number as usize] > 20, "{number}");
     }
 }
 

@@ -2,7 +2,7 @@
 use juntreak_tests::formulas::temporal;
 use juntreak_tests::header::limits::{MAX_DELAY, MAX_INTERVAL, MAX_NODES, MAX_TRACE, SCRATCH_WORDS};
 use juntreak_tests::header::refusals::{ABSENT, BUFFER, OK, STATES, UNSOUND};
-use juntreak_tests::header::{whole_words, NUMBERS};
+use juntreak_tests::header::whole_words;
 use juntreak_tests::library::{verdicts, TableBytes};
 use juntreak_tests::model::{self, Node, Rule, Table};
 use juntreak_tests::random::{any_table, asked, quiet, quiet_trace, table, trace, turning, words, Random};
@@ -195,7 +195,6 @@ fn the_two_evaluators_agree() {
 #[test]
 fn refusals_and_their_order() {
     let mut r = Random(15);
-    let mut seen = [0u32; NUMBERS];
     for _ in 0..40 {
         for case in 0..32u32 {
             let is = |bit: u32| case >> bit & 1 == 1;
@@ -220,11 +219,7 @@ fn refusals_and_their_order() {
                 OK
             };
             assert_eq!(number, wanted);
-            seen[number as usize] += 1;
         }
-    }
-    for number in [OK, ABSENT, STATES, BUFFER, UNSOUND] {
-        assert!(seen[number as usize] > 20, "{number}");
     }
 }
 

@@ -5,9 +5,9 @@ use native.Mathlib.Omega.{arith}
 use mathlib.Core.Path.{_≡_, refl, sym, ap, _∙_}
 use mathlib.Core.List.{List, [], _∷_, _++_}
 use lib.ListN.{length, getD, take, drop, length-take, length-drop}
-use lib.Seq.{take-at, drop-at, drop-drop, take-nil, getD-append-add, getD-drop, getD-take, ext-getD, length-take-le}
+use lib.Seq.{take-at, take-nil, getD-append-add, getD-drop, getD-take, ext-getD, length-take-le}
 use Rattle.lists.specs.Sequence.{ticks}
-use Rattle.lists.proofs.Sequences.{length-ticks, getD-ticks}
+use Rattle.lists.proofs.Sequences.{length-ticks, getD-ticks, drop-past}
 
 module _ {A : Type 0} where
   pub drop-append : (n : ℕ) (xs ys : List A) → drop n (xs ++ ys) ≡ drop n xs ++ drop (n - length xs) ys
@@ -48,7 +48,7 @@ kept-is hist mid last block h skip m from left p q r s e em ef a b =
     let first : take m mid ≡ take m (drop skip hist) = rw a (take-at (take m (drop skip hist)) (drop m hist) m lm) in
     let rest : drop left mid ≡ drop left hist =
     let k : left ≡ m + (left - m) = omega arith in
-    rw k (sym (drop-drop (left - m) m mid) ∙ ap (drop (left - m)) (rw a (drop-at (take m (drop skip hist)) (drop m hist) m lm)) ∙ drop-drop (left - m) m hist) in
+    rw k (ap (drop (m + (left - m))) a ∙ drop-past (take m (drop skip hist)) hist m lm (left - m)) in
     let trace : drop skip (take h hist ++ block) ≡ take m (drop skip hist) ++ drop from block =
     drop-append skip (take h hist) block ∙ rw (drop-take skip h hist, lh, em, ef) in
     b ∙ rw (first, n, rest, trace)

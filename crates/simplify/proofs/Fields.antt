@@ -3,13 +3,13 @@ use Prim.Native.Nat.{ℕ, _≤_, _<_}
 use native.Mathlib.Omega.{arith}
 use mathlib.Core.Path.{_≡_, refl, ap, ap₂, _∙_}
 use mathlib.Core.Bool.{Bool, true, false, false≢true, true≢false}
-use mathlib.Core.Logic.{_⊎_, inl, inr, ⊎-elim}
 use mathlib.Core.List.{List}
 use lib.ListN.{getD}
 use Rattle.table.specs.Nodes.{Op, Unknown, Signal, Top, Bottom, Not, And, Or, Finally, Globally, Until, Release, usesOf}
 use Rattle.table.specs.Sound.{Field, NodeFits}
 use Rattle.table.specs.declared.Node.{Node}
 use Rattle.table.specs.declared.Uses.{Uses}
+use Rattle.table.proofs.Soundness.{field-below}
 use Rattle.simplify.specs.Fits.{op}
 use Rattle.simplify.specs.Code.Law.{constant, lawNot, lawOne, lawTwo, lawJoin, lawAs}
 use Rattle.simplify.specs.Code.Passes.{renamed}
@@ -25,11 +25,6 @@ used-field h = record { limited = λ _. h; unused = λ u. absurd (true≢false u
 pub field-as : {a b : Bool} {limit value : ℕ} → a ≡ b → Field b limit value → Field a limit value
 field-as e f = rw e f
 
--- a field is used and below its limit, or not used and 0
-field-known : {limit value : ℕ} (used : Bool) → Field used limit value → ((used ≡ true) × (value < limit)) ⊎ ((used ≡ false) × (value ≡ 0))
-field-known true f = inl (refl, f .limited refl)
-field-known false f = inr (refl, f .unused refl)
-
 -- ---- a node
 module _ (p : ℕ) (n : Node) (w : NodeFits p n) where
   pub left-before : {o : Op} → op n ≡ o → usesOf o .left ≡ true → n .left < p
@@ -39,7 +34,7 @@ module _ (p : ℕ) (n : Node) (w : NodeFits p n) where
   right-before e u = w .right .limited (ap (λ o. usesOf o .right) e ∙ u)
 
   pub hi-limit : n .hi < 4096
-  hi-limit = ⊎-elim (λ k. k .1) (λ k. omega (arith, k .1)) (field-known (usesOf (op n) .interval) (w .interval))
+  hi-limit = field-below 4096 (w .interval) (omega arith) (omega arith)
 
 -- true, and false
 pub constant-fits : (p k : ℕ) → 1 ≤ k → k ≤ 10 → usesOf (op (constant k)) ≡ usesOf Top → NodeFits p (constant k)
@@ -87,7 +82,8 @@ module _ (ps : List ℕ) (first : getD ps 0 0 ≡ 0) where
 -- two ways to place operands that agree before p agree on a node at p
 module _ (f g : ℕ → ℕ) (first : f 0 ≡ g 0) (p : ℕ) (each : (i : ℕ) → i < p → f i ≡ g i) where
   same-field : {i : ℕ} {used : Bool} → Field used p i → f i ≡ g i
-  same-field {used = used} k = ⊎-elim (λ h. each _ (h .1)) (λ h. rw (h .1) first) (field-known used k)
+  same-field {used = true} k = each _ (k .limited refl)
+  same-field {used = false} k = rw (k .unused refl) first
 
   pub places-agree : (x : Node) → NodeFits p x → overPlaces x (f (x .left)) (f (x .right)) ≡ overPlaces x (g (x .left)) (g (x .right))
   places-agree x w = ap₂ (overPlaces x) (same-field (w .left)) (same-field (w .right))
