@@ -43,10 +43,10 @@ module _ (t : Table) (z : Sound t) (out : List ℕ) (h : bookLength t ≤ length
   accepted-is : _≡_ {A = Writing} (record { number = 0; length = bookLength t }) (writing t (length out))
   accepted-is = whole-written t out (sound-iff t .1 z) h refl .0
 
-  into-is : bookOf t ++ drop (bookLength t) out ≡ writtenInto t out
+  pub into-is : bookOf t ++ drop (bookLength t) out ≡ writtenInto t out
   into-is = whole-written t out (sound-iff t .1 z) h refl .1
 
-  length-is : writing t (length out) .length ≡ bookLength t
+  pub length-is : writing t (length out) .length ≡ bookLength t
   length-is = ap (λ (w : Writing). w .length) (sym accepted-is)
 
   book-is : bookIn t out ≡ bookOf t

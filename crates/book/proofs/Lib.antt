@@ -17,9 +17,9 @@ pub mod Sound
 -- the bytes of a book that is made of records
 mod Records
 -- the laws of the writer
-mod Writes
+pub mod Writes
 -- each sound table has a book
-mod Complete
+pub mod Complete
 -- a written book is read back
 pub mod Back
 -- only what is read of a book matters

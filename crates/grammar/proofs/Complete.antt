@@ -127,7 +127,7 @@ module _ {B N : Type 0} {A : Actions B N} (ex : Exact A) (lim : ℕ) where
   closed-shuts : {st : Stack N} {b : B} {c : Config B N} → Like A lim c (cf AllRead First [] st b) → Shuts st b c
   closed-shuts {st} {b} l = shuts-like l (closed-close st b)
 
-  -- what readLine each sort comes to
+  -- what reading each sort comes to
   record Joint (o : Option N) (c : Config B N) (bs : List ℕ) (st : Stack N) (b : B) (r : List ℕ) : Type 0 where
     now : Config B N
     way : Runs A lim c bs now r

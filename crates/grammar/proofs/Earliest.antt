@@ -230,7 +230,7 @@ module _ {B N : Type 0} (A : Actions B N) (lim wide : ℕ) (h : lim ≤ wide) wh
   runs-widens still = still
   runs-widens (moves {c = c} {x = x} s p) = moves (on-widens (widens c x) s) (runs-widens p)
 
--- ---- 33 is told only of an bracketOpened bracket where a unary is awaited
+-- ---- 33 is told only of an opening bracket where a unary is awaited
 data Deep {B N : Type 0} (lim : ℕ) : Config B N → ℕ → Type 0 where
   deep : {p : Awaited N} {is : List Item} {st : Stack N} {b : B} {x : ℕ} → x ≡ 40 → Deep lim (cf AwaitUnary p is st b) x
 
@@ -365,7 +365,7 @@ deep-with {c} {x} read left a (deep {st = st} e) f g way s =
       deep = λ name t z r l. unfit-by 32 32 name 33 a t r (omega arith) (way (40 ∷ z)) (at-byte (rw e at s)) l;
     }
 
--- 33: an bracketOpened bracket that is fit, but for its depth
+-- 33: an opening bracket that is fit, but for its depth
 pub earliest-33 : (b : Formula) (i : ℕ) (bs : List ℕ) (p : ℕ) → fate trees 32 (begin trees b) i bs ≡ Fault 33 p → Fault33 i bs p
 earliest-33 b i bs p h =
     let f = faulty trees 32 bs (begin trees b) i 33 p h in

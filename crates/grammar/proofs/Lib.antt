@@ -1,4 +1,4 @@
--- runs of the readLine over some bytes, and what they say of the fate of a line
+-- runs of the reading over some bytes, and what they say of the fate of a line
 pub mod Runs
 -- what a byte does in each mode
 pub mod Steps
@@ -10,9 +10,11 @@ pub mod Sound
 pub mod Earliest
 -- there is one earliest place
 pub mod Unique
--- each line has one readLine; accepted exactly; lines worked
+-- each line has one reading; accepted exactly; lines worked
 pub mod Single
 -- the fate in an image is the image of the fate
 pub mod Images
 -- a fault has number 32 or 33
 pub mod Numbers
+-- a line has one byte 10, its last; what stands before a fault of syntax has none
+pub mod Ends

@@ -1,4 +1,4 @@
--- Each line has one readLine; accepted exactly; and some lines worked. Assumes nothing.
+-- Each line has one reading; accepted exactly; and some lines worked. Assumes nothing.
 use Prim.Native.Nat.{ℕ, _+_}
 use native.Mathlib.Omega.{arith}
 use mathlib.Core.Path.{_≡_, refl}

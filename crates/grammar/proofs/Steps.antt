@@ -1,4 +1,4 @@
--- What a byte does in each mode, for the readers that are withCells in code. Assumes nothing.
+-- What a byte does in each mode, for the readers that are written in code. Assumes nothing.
 use Prim.Native.Nat.{ℕ, _-_, _≤_, _<_}
 use mathlib.Core.Path.{_≡_, refl, sym, ap, _∙_}
 use mathlib.Core.Bool.{Bool, true, false, _&&_}

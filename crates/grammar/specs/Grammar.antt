@@ -102,7 +102,7 @@ pub record Fault32 (i : ℕ) (bs : List ℕ) (p : ℕ) : Type 0 where
   pub before : Viable maxDepth read
   pub unfit : Unfit read left
 
--- 33 there: an bracketOpened bracket that some line has there, and none whose brackets nest at most 32 deep
+-- 33 there: an opening bracket that some line has there, and none whose brackets nest at most 32 deep
 pub record Fault33 (i : ℕ) (bs : List ℕ) (p : ℕ) : Type 0 where
   pub read : List ℕ
   pub left : List ℕ

@@ -1,4 +1,4 @@
--- One readLine as the image of another: numbers held at 1,000,000, what is built by g, its nodes by h.
+-- One reading as the image of another: numbers held at 1,000,000, what is built by g, its nodes by h.
 use Prim.Native.Nat.{ℕ, _+_, _*_, min}
 use mathlib.Core.Path.{_≡_}
 use mathlib.Core.List.{List, map}

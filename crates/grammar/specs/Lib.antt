@@ -1,8 +1,8 @@
 -- the lines of request A2, and what a fault of syntax says
 pub mod Grammar
--- the readLine of a line byte by byte
+-- the reading of a line byte by byte
 pub mod Machine
--- one readLine as the image of another
+-- one reading as the image of another
 pub mod Images
 -- the nodes of a line in table order
 pub mod Made

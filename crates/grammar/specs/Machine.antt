@@ -145,7 +145,7 @@ module _ {B N : Type 0} (A : Actions B N) where
   spelt [] v p is st b = atomDone p is st (put b (constItem v))
   spelt (y ∷ w) v p is st b = cf (InWord y w v) p is st b
 
-  -- an bracketOpened bracket, where `lim` may be open
+  -- an opening bracket, where `lim` may be open
   abbrev pub bracketOpened : ℕ → Awaited N → List Item → Stack N → B → Next B N
   bracketOpened lim p is st b = pick (ltb (depth st) lim) (on (cf AwaitUnary First [] (push p is st) b)) (stop DEEP)
 
@@ -246,6 +246,6 @@ treeOf r i l = treeAs (opOf (i .kind)) i l r
 abbrev pub trees : Actions Formula Formula
 trees = record { lastNode = λ (b : Formula). b; emit = treeOf; more = λ (n d : ℕ). 10 * n + d }
 
--- the readLine of a line at the place i, within the depth of brackets
+-- the reading of a line at the place i, within the depth of brackets
 abbrev pub readLine : ℕ → List ℕ → Fate Formula
 readLine i bs = fate trees maxDepth (begin trees (const false)) i bs

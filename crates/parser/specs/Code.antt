@@ -59,7 +59,7 @@ pub record Expected (text : List ℕ) (i x n j : ℕ) : Type 0 where
   pub inside : j ≤ length text
   pub same : (g : Goal) (p : Awaited ℕ) (is : List Item) (st : Stack ℕ) (β : Tape) → wanted g ≡ x
       → from text (cf (AwaitByte g) p is st β) i ≡ told n j (from text (go tapes g p is st β) j)
-  -- the formulaEnded bracket of a formula
+  -- the closing bracket of a formula
   pub closes : x ≡ 41 → (p : Awaited ℕ) (is : List Item) (st : Stack ℕ) (β : Tape)
       → from text (cf AllRead First [] (push p is st) β) i ≡ told n j (from text (atomDone tapes p is st β) j)
   -- the end of a line with the name v

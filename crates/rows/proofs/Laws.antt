@@ -4,7 +4,7 @@ use mathlib.Core.Logic.{_⊎_, inl, inr, ⊎-elim}
 use mathlib.Core.Bool.{Bool, true, false, _||_}
 use mathlib.Core.List.{List, [], _∷_, _++_, append-assoc, append-nil}
 use Prim.Native.Nat.{ℕ, zero, suc, _+_, _-_, _*_, _/_, _%_, _^_, _≤_, _<_}
-use native.Mathlib.Nat.{add-zero, eq-or-lt-of-le, pow-le-pow-right, pow-succ'}
+use native.Mathlib.Nat.{add-zero, zero-add, eq-or-lt-of-le, pow-le-pow-right, pow-succ'}
 use native.Mathlib.Numerals.{add-one}
 use native.Mathlib.Omega.{arith}
 use borrow.Author.Tests.{lt-ltb, le-ltb}
@@ -36,6 +36,22 @@ put-then {a} {b} {c} {xs} {ys} {at} {n} {m} p q = record {
   room = rw (length-append xs ys) (omega (arith, p .place, q .room, put-length p));
 }
 
+-- nothing is put; and what begins with xs and goes on as before has xs put at its start
+pub put-nothing : (old : List ℕ) → Put old 0 [] old 0
+put-nothing old = record { list = refl; place = refl; room = omega arith }
+
+pub put-start : (old xs : List ℕ) {new : List ℕ} {n : ℕ} → new ≡ xs ++ drop (length xs) old → n ≡ length xs → length xs ≤ length old → Put old 0 xs new n
+put-start old xs {new} e p h =
+    let w : new ≡ xs ++ drop (0 + length xs) old = rw (zero-add (length xs)) e in
+    record { list = w ∙ sym (sets-eq xs old 0 (omega arith)); place = omega arith; room = omega arith }
+
+-- one byte more, by its place
+pub put-tick : (f : ℕ → ℕ) {old mid : List ℕ} {at i v : ℕ} → Put old at (ticks f i) mid (at + i) → at + i < length old → v ≡ f i
+    → Put old at (ticks f (i + 1)) (set mid (at + i) v) (at + (i + 1))
+put-tick f {old} {mid} {at} {i} {v} p h e =
+    let w : ticks f (i + 1) ≡ ticks f i ++ (v ∷ []) = rw (add-one i, e) (ticks-snoc f i) in
+    rw w (put-then p (record { list = refl; place = omega arith; room = rw (put-length p) (omega arith) }))
+
 -- the fewest places that hold n are those that a search finds
 places-are : (f j k n : ℕ) → 1 ≤ j → j ≤ k → k ≤ j + f → Fewest 10 1 n k → placesFrom f j n ≡ k
 unfolding placesFrom
@@ -52,6 +68,24 @@ places-are (suc f) j k n a b h w =
 pub decimal-is : (n k : ℕ) → k ≤ 20 → Fewest 10 1 n k → digits 10 k n ≡ decimal n
 unfolding decimal
 decimal-is n k h w = rw (places-are 19 1 k n (omega arith) (w .0) (omega arith) w)
+
+-- so many digits are enough for any number that is spelled
+places-few : (f k n : ℕ) → placesFrom f k n ≤ k + f
+unfolding placesFrom
+places-few zero k n = omega arith
+places-few (suc f) k n =
+    ⊎-elim
+    (λ (lt : n < 10 ^ k). rw (lt-ltb n (10 ^ k) lt) (omega arith))
+    (λ (le : 10 ^ k ≤ n). rw (le-ltb n (10 ^ k) le) (omega (arith, places-few f (k + 1) n)))
+    (lt-or-le n (10 ^ k))
+
+length-digits : (k n : ℕ) → length (digits 10 k n) ≡ k
+length-digits zero n = refl
+length-digits (suc k) n = length-append (digits 10 k (n / 10)) (glyph (n % 10) ∷ []) ∙ rw (length-digits k (n / 10)) (add-one k)
+
+pub decimal-short : (n : ℕ) → length (decimal n) ≤ 20
+unfolding decimal
+decimal-short n = rw (length-digits (placesFrom 19 1 n) n) (places-few 19 1 n)
 
 -- m places are enough
 pub places-most : (m n k : ℕ) → 1 ≤ m → n < 10 ^ m → Fewest 10 1 n k → k ≤ m
@@ -183,7 +217,7 @@ digit-is (suc (suc r)) h = absurd (omega arith)
 
 pub rows-none : (name buffer : List ℕ) (tick : ℕ) (f : ℕ → Bool) → Put buffer 0 (rowsFrom name tick (ticks f 0)) buffer 0
 unfolding rowsFrom
-rows-none name buffer tick f = record { list = refl; place = omega arith; room = omega arith }
+rows-none name buffer tick f = put-nothing buffer
 
 -- the tick after the last passes 64 bits, as the code tests it
 pub past-last : (tick count : ℕ) → tick < 2 ^ 64 → ltb (18446744073709551615 - tick) count ≡ ltb 18446744073709551615 (tick + count)
@@ -193,7 +227,7 @@ past-last tick count h =
 -- rows that do not fit are not put, and rows that fit are
 module _ (name tick : ℕ) (words : List ℕ) (count : ℕ) (old : List ℕ) where
   pub put-none : (ltb 4096 count || ltb 18446744073709551615 (tick + count)) ≡ true → Put old 0 (fitting name tick words count) old 0
-  put-none e = rw e (record { list = refl; place = omega arith; room = omega arith })
+  put-none e = rw e (put-nothing old)
 
   pub put-fitting : (new : List ℕ) (n : ℕ) (xs : List ℕ) → (ltb 4096 count || ltb 18446744073709551615 (tick + count)) ≡ false → xs ≡ decimal name
       → Put old 0 (rowsFrom xs tick (ticks (bitAt words) count)) new n → Put old 0 (fitting name tick words count) new n

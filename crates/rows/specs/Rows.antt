@@ -1,13 +1,14 @@
--- The lines that the program writes (document 01, Program and C entry), as lists of bytes.
+-- The lines that the program watch writes (document 01, Program and C entry), as lists of bytes; what is put into a buffer.
 use mathlib.Core.Path.{_≡_}
 use mathlib.Core.Bool.{Bool, _||_}
 use mathlib.Core.List.{List, [], _∷_, _++_}
-use Prim.Native.Nat.{ℕ, zero, suc, _+_, _*_, _^_, _≤_}
+use Prim.Native.Nat.{ℕ, zero, suc, _+_, _*_, _^_, _≤_, _<_}
 use lib.Dec.{ltb}
 use lib.ListN.{length}
 use lib.Seq.{sets}
 use Rattle.limits.specs.Limits.{closeWords}
 use Rattle.io.specs.Digits.{digits}
+use Rattle.lists.specs.Ascii.{ascii}
 use Rattle.lists.specs.Choice.{pick}
 use Rattle.lists.specs.Sequence.{ticks}
 use Rattle.lists.specs.Bits.{bitAt, digit}
@@ -47,16 +48,21 @@ fitting name tick words count = pick (ltb maxRows count || ltb maxTick (tick + c
 
 -- ---- `book NUMBER RECORD`, `bad line N`, `feed NUMBER`
 abbrev pub bookLine : ℕ → ℕ → List ℕ
-bookLine number place = 98 ∷ 111 ∷ 111 ∷ 107 ∷ 32 ∷ (decimal number ++ (32 ∷ (decimal place ++ (10 ∷ []))))
+bookLine number place = ascii "book " ++ (decimal number ++ (32 ∷ (decimal place ++ (10 ∷ []))))
 
 abbrev pub badLine : ℕ → List ℕ
-badLine n = 98 ∷ 97 ∷ 100 ∷ 32 ∷ 108 ∷ 105 ∷ 110 ∷ 101 ∷ 32 ∷ (decimal n ++ (10 ∷ []))
+badLine n = ascii "bad line " ++ (decimal n ++ (10 ∷ []))
 
 abbrev pub feedLine : ℕ → List ℕ
-feedLine number = 102 ∷ 101 ∷ 101 ∷ 100 ∷ 32 ∷ (decimal number ++ (10 ∷ []))
+feedLine number = ascii "feed " ++ (decimal number ++ (10 ∷ []))
 
 -- ---- xs was put into old at a place: what the buffer holds now, and the place after it
 pub record Put (old : List ℕ) (at : ℕ) (xs : List ℕ) (new : List ℕ) (next : ℕ) : Type 0 where
   pub list : new ≡ sets old at xs
   pub place : next ≡ at + length xs
   pub room : at + length xs ≤ length old
+
+-- ---- the same if there is room for all of xs, and nothing otherwise
+pub record PutIfRoom (old : List ℕ) (at : ℕ) (xs : List ℕ) (new : List ℕ) (next : ℕ) : Type 0 where
+  pub put : at + length xs ≤ length old → Put old at xs new next
+  pub left : length old < at + length xs → (new ≡ old) × (next ≡ at)

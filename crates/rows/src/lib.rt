@@ -1,4 +1,4 @@
-// Lines of output as text: rows of verdicts, and what is told of a refusal.
+// Lines of output as text: rows of verdicts, and what is told of a refusal; and pieces of which other texts are made.
 ghost use mathlib.Core.Path.{_≡_};
 ghost use Prim.Native.Nat.{_+_, _-_, _*_, _^_, _≤_, _<_};
 ghost use mathlib.Core.List.{[], _∷_};
@@ -8,7 +8,7 @@ ghost use Rattle.lists.specs.Choice.{pick};
 ghost use Rattle.lists.specs.Bits.{bitAt, digit};
 ghost use Rattle.lists.specs.Sequence.{ticks};
 use limits::CLOSE_WORDS;
-ghost use Rattle.rows.specs.Rows.{Put, decimal, rowsFrom, fitting, bookLine, badLine, feedLine};
+ghost use Rattle.rows.specs.Rows.{Put, PutIfRoom, decimal, rowsFrom, fitting, bookLine, badLine, feedLine};
 ghost use Rattle.rows.specs.Code.Steps.{rowEnd, Fronted};
 
 // The most rows of one text, each of 32 bytes at most: those of a close.
@@ -63,6 +63,32 @@ pub fn put_feed(text: &mut [u8; TEXT_BYTES], number: u8) -> usize
     let b = put_number(text, a, number as u64);
     put_byte(text, b, 10)
 }
+
+// ---- pieces of other texts
+
+// All of s, into out from a place on, if there is room for it: the place after it. Otherwise nothing, and the place itself.
+pub fn put_text(out: &mut [u8], at: usize, s: &[u8]) -> usize
+    ensures { λ r. ⌜ PutIfRoom (now (out .entry)) at (now (s .entry)) (now (out .exit)) r ⌝ }
+{
+    if at > out.len() {
+        return at;
+    }
+    if out.len() - at < s.len() {
+        return at;
+    }
+    put(out, at, s)
+}
+
+// The same of a number in decimal.
+pub fn put_decimal(out: &mut [u8], at: usize, n: u64) -> usize
+    ensures { λ r. ⌜ PutIfRoom (now (out .entry)) at (decimal n) (now (out .exit)) r ⌝ }
+{
+    let mut digits = [0u8; 20];
+    let k = io::decimal(n, &mut digits);
+    put_text(out, at, &digits[..k])
+}
+
+// ---- the steps
 
 fn put_each(out: &mut [u8], name: &[u8], tick: u64, words: &[u64], count: usize) -> usize
     requires { ⌜ (32 * count ≤ length (now out)) × (length (now name) ≤ 5) × (count ≤ 64 * length (now words)) × (tick + count < 2 ^ 64) ⌝ }
@@ -131,9 +157,7 @@ fn put_number(out: &mut [u8], at: usize, n: u64) -> usize
     ensures { λ r. ⌜ Put (now (out .entry)) at (decimal n) (now (out .exit)) r ⌝ }
     ensures { λ r. ⌜ r ≤ at + 20 ⌝ }
 {
-    let mut digits = [0u8; 20];
-    let k = io::decimal(n, &mut digits);
-    put(out, at, &digits[..k])
+    put_decimal(out, at, n)
 }
 
 // The same, but nothing for 0.

@@ -56,7 +56,7 @@ module _ (c : List ℕ) (i : ℕ) (it : Item) (l : ℕ) where
   kept : length c5 ≡ length c
   kept = simp length-set
 
-  -- what stands before a cell that is withCells stays
+  -- what stands before a cell that is written stays
   till-4 : (j : ℕ) → j < i + 4 → getD c5 j 0 ≡ getD c4 j 0
   till-4 j h = getD-set-other c4 (i + 4) j l 0 (λ e. omega arith)
 

@@ -31,10 +31,11 @@ use Rattle.grammar.specs.Machine.{item, plainItem, build}
 use Rattle.grammar.specs.Made.{made, lists}
 use Rattle.text.specs.Typing.{inByte, inTwoBytes, nodeOf, added, grown}
 use Rattle.text.specs.Accepted.{size, FitInterval, NumbersFit}
+use Rattle.text.specs.Outcome.{lineFaults}
 
 -- the numbers of a line that is refused
 abbrev pub Refusal : ℕ → Type 0
-Refusal n = among n (5 ∷ 6 ∷ 8 ∷ 9 ∷ 10 ∷ []) ≡ true
+Refusal n = among n lineFaults ≡ true
 
 pub refused-number : {n : ℕ} → Refusal n → ¬ (n ≡ 0)
 refused-number {n} r e = let z : _≡_ {A = Bool} false true = rw e at r in absurd (let y : _≡_ {A = ℕ} 0 1 = cc in omega arith)

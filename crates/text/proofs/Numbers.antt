@@ -12,7 +12,7 @@ use Rattle.builder.specs.declared.Added.{Added}
 use Rattle.grammar.specs.Made.{nodesOf}
 use Rattle.text.specs.declared.Typed.{Typed}
 use Rattle.text.specs.Typing.{lineAdded, typed}
-use Rattle.text.specs.Outcome.{Outcome, empty, byte, deep, faulty, whole}
+use Rattle.text.specs.Outcome.{Reached, lineFaults, Outcome, empty, byte, deep, faulty, whole}
 use Rattle.text.proofs.Grows.{Refusal}
 use Rattle.text.proofs.Holds.{Line, taken, turned, line}
 use Rattle.text.proofs.Means.{reached-means}
@@ -38,13 +38,16 @@ refusal-answer n = go (eqb n 0) (eqb n 5) (eqb n 6) (eqb n 8) (eqb n 9) (eqb n 1
     go false false false false false true f h = refl
     go false false false false false false f h = absurd (false≢true h)
 
+-- the number of a line that is whole, but at fault
+pub line-answer : {text bs : List ℕ} {t : Table} {i m : ℕ} → Reached text t i m bs → (n : ℕ) (f : Formula) → ¬ (lineAdded t n (nodesOf f) .number ≡ 0)
+    → among (lineAdded t n (nodesOf f) .number) lineFaults ≡ true
+line-answer {t = t} r n f z = let m = reached-means r in line-number (line (m .names) (m .formulas) t (m .holds) n f) z
+
 outcome-number : {text : List ℕ} {x : Typed} → Outcome text x → among (x .number) answers ≡ true
 outcome-number (empty e) = refl
 outcome-number (byte r z f) = refl
 outcome-number (deep r f) = refl
-outcome-number (faulty {t = t} {n = n} {f = f} r l z) =
-    let m = reached-means r in
-    refusal-answer (lineAdded t n (nodesOf f) .number) (line-number (line (m .names) (m .formulas) t (m .holds) n f) z)
+outcome-number (faulty {t = t} {n = n} {f = f} r l z) = refusal-answer (lineAdded t n (nodesOf f) .number) (line-answer r n f z)
 outcome-number (whole z r) = refl
 
 -- THE LAW

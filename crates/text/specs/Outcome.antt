@@ -2,10 +2,10 @@
 use Prim.Native.Nat.{ℕ, _+_, _<_}
 use mathlib.Core.Path.{_≡_}
 use mathlib.Core.Bool.{false}
-use mathlib.Core.List.{List, []}
+use mathlib.Core.List.{List, [], _∷_}
 use lib.ListN.{length, getD}
 use Rattle.limits.specs.Limits.{maxDepth, maxNodes, maxRules}
-use Rattle.refusals.specs.Numbers.{RULELESS, SYNTAX, DEEP}
+use Rattle.refusals.specs.Numbers.{ARGUMENT, INTERVAL, FULL, LONG, NAME, RULELESS, SYNTAX, DEEP}
 use Rattle.mltl.specs.Mltl.{Formula, const}
 use Rattle.table.specs.Nodes.{noTable, ruleAt, watchedFormula}
 use Rattle.table.specs.declared.Table.{Table}
@@ -20,6 +20,10 @@ pub data Reached (text : List ℕ) : Table → ℕ → ℕ → List ℕ → Type
   begins : Reached text noTable 0 1 text
   goes-on : {t u : Table} {i j line n : ℕ} {f : Formula} {bs r : List ℕ}
       → Reached text t i line bs → Line maxDepth n f bs r → i + length bs ≡ j + length r → lineAdded t n (nodesOf f) ≡ added 0 u → Reached text u j (line + 1) r
+
+-- the numbers that a line which is whole can be at fault with
+abbrev pub lineFaults : List ℕ
+lineFaults = ARGUMENT ∷ INTERVAL ∷ FULL ∷ LONG ∷ NAME ∷ []
 
 -- the answers: no line; a fault of syntax at its earliest place, in a line that has begun; a line that is whole, but at fault as for books;
 -- the table

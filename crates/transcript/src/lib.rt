@@ -1,1 +1,1 @@
-// No code: what the program prints, as a theorem.
+// No code: what the program watch prints, as a theorem.
