@@ -1,12 +1,13 @@
 //! The proved library as Rust sees it (`library`), the limits and refusal numbers of its C header (`header`), models written from the
-//! documents alone (`model`, `known`, `typed`, `viable`, `written`, `program`), random input (`random`), and where programs run
-//! (`place`). For the benchmarks (`bench`): the formulas (`formulas`), and what the library and the program are compared with
-//! (`naive`, `queue`, `twin`, `plain`, `plain_text`).
+//! documents alone (`model`, `known`, `typed`, `viable`, `written`, `program`), what the program rules tells (`message`), random input
+//! (`random`), where programs are (`place`) and how they are run (`spawn`). For the benchmarks (`bench`): the formulas (`formulas`), and what the library and the
+//! program are compared with (`naive`, `queue`, `twin`, `plain`, `plain_text`).
 pub mod bench;
 pub mod formulas;
 pub mod header;
 pub mod known;
 pub mod library;
+pub mod message;
 pub mod model;
 pub mod naive;
 pub mod place;
@@ -15,6 +16,7 @@ pub mod plain_text;
 pub mod program;
 pub mod queue;
 pub mod random;
+pub mod spawn;
 pub mod twin;
 pub mod typed;
 pub mod viable;

@@ -1,12 +1,28 @@
-//! Where the program watch is, and folders to run it in.
+//! Where the programs are, and folders to run them in.
 use std::path::{Path, PathBuf};
+use std::process::Command;
 use std::sync::atomic::{AtomicUsize, Ordering};
 
-/// The program watch; JUNTREAK_WATCH names another one, to try the tests themselves.
-pub fn watch() -> PathBuf {
-    let named = std::env::var_os("JUNTREAK_WATCH").map(PathBuf::from);
-    let path = named.unwrap_or_else(|| Path::new(env!("CARGO_MANIFEST_DIR")).join("../target/bin/watch"));
+/// A program of target/bin, or the one that a variable names, to try the tests themselves.
+fn program(name: &str, variable: &str) -> PathBuf {
+    let named = std::env::var_os(variable).map(PathBuf::from);
+    let path = named.unwrap_or_else(|| Path::new(env!("CARGO_MANIFEST_DIR")).join("../target/bin").join(name));
     path.canonicalize().unwrap_or_else(|e| panic!("{}: {e}", path.display()))
+}
+
+pub fn watch() -> PathBuf {
+    program("watch", "JUNTREAK_WATCH")
+}
+
+pub fn rules() -> PathBuf {
+    program("rules", "JUNTREAK_RULES")
+}
+
+/// The program watch, to be run in a folder.
+pub fn watch_in(folder: &Folder) -> Command {
+    let mut command = Command::new(watch());
+    command.current_dir(&folder.0);
+    command
 }
 
 /// A folder that is removed in the end.
@@ -16,7 +32,7 @@ impl Folder {
     pub fn empty() -> Folder {
         static COUNT: AtomicUsize = AtomicUsize::new(0);
         let number = COUNT.fetch_add(1, Ordering::Relaxed);
-        let path = std::env::temp_dir().join(format!("juntreak-watch-{}-{number}", std::process::id()));
+        let path = std::env::temp_dir().join(format!("juntreak-tests-{}-{number}", std::process::id()));
         // A run that was stopped may have left one of this name.
         let _ = std::fs::remove_dir_all(&path);
         std::fs::create_dir(&path).unwrap();

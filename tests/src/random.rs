@@ -1,5 +1,5 @@
 //! Random numbers, tables, books, typed rules and traces.
-use crate::header::limits::{MAX_DEPTH, MAX_NODES, MAX_RECORDS, MAX_RULES, MAX_SIGNAL, NODE_COUNT_AT, RECORD_BYTES, RULE_COUNT_AT, TABLE_BYTES};
+use crate::header::limits::{MAX_DELAY, MAX_DEPTH, MAX_NODES, MAX_RECORDS, MAX_RULES, MAX_SIGNAL, NODE_COUNT_AT, RECORD_BYTES, RULE_COUNT_AT, TABLE_BYTES};
 use crate::header::places::rule_at;
 use crate::model::{law_at, sound, unused, Node, Rule, Table};
 use crate::typed::{depth, tokens, Line, Part};
@@ -478,6 +478,27 @@ pub fn lines(r: &mut Random, counts: &[usize], longest: usize) -> Vec<Line> {
     }
     lines
 }
+
+/// One to `most` counts of nodes, together at most 64 and now and then just that.
+fn counts(r: &mut Random, most: usize) -> Vec<usize> {
+    let (rules, full) = (1 + r.below(most as u64) as usize, r.chance(6));
+    let mut counts: Vec<usize> = (0..rules).map(|_| 1 + r.below(MAX_NODES as u64 / MAX_RULES as u64) as usize).collect();
+    if full {
+        let others: usize = counts[1..].iter().sum();
+        counts[0] = MAX_NODES - others;
+    }
+    counts
+}
+
+/// Rules of any kind, at most so many.
+pub fn any_lines(r: &mut Random, most: usize) -> Vec<Line> {
+    let longest = r.pick(&[MAX_DELAY, MAX_DELAY, 300, 9]);
+    let counts = counts(r, most);
+    lines(r, &counts, longest)
+}
+
+/// Every byte that a line can hold, and some that none can.
+pub const LINE_BYTES: &[u8] = b" 0123456789:strufale!FGUR[,]()&|\n\0\t\rSgx-.{\x80\xff";
 
 /// The text of rules, with spaces and with brackets that nothing needs, or without.
 pub fn text(r: &mut Random, lines: &[Line]) -> Vec<u8> {

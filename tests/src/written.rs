@@ -9,6 +9,14 @@ pub type Record = [u8; RECORD_BYTES];
 /// Where next stands in a record.
 pub const NEXT: usize = 8;
 
+/// The book of document 01's worked example.
+pub const WORKED: [u8; 4 * RECORD_BYTES] = [
+    0, 0, 0, 0, 0, 0, 0, 0, 1, 0, 0, 0, //
+    1, 0, 0, 0, 0, 0, 0, 0, 2, 0, 0, 0, //
+    7, 0, 1, 0, 3, 0, 1, 0, 3, 0, 0, 0, //
+    11, 7, 0, 0, 0, 0, 2, 0, 0, 0, 0, 0,
+];
+
 /// The record of a node, its next still 0; `record` gives the number of an operand's record.
 pub fn node_record(n: &Node, record: impl Fn(u8) -> u8) -> Record {
     let (lo, hi) = (n.lo.to_le_bytes(), n.hi.to_le_bytes());

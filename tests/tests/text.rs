@@ -4,9 +4,9 @@ use juntreak_tests::header::refusals::{ARGUMENT, DEEP, FULL, INTERVAL, LONG, NAM
 use juntreak_tests::header::{whole_words, NUMBERS};
 use juntreak_tests::library::{read, read_text, verdicts, TableBytes};
 use juntreak_tests::plain_text;
-use juntreak_tests::random::{book, lines, text, trace, Random};
+use juntreak_tests::random::{any_lines, book, lines, text, trace, Random, LINE_BYTES};
 use juntreak_tests::same;
-use juntreak_tests::typed::{self, repeated, Line, Refusal};
+use juntreak_tests::typed::{self, repeated, Refusal};
 use juntreak_tests::viable::Recognizer;
 
 /// The beginning of a text, to be shown.
@@ -50,29 +50,12 @@ fn each_seen(seen: &[u32; NUMBERS], numbers: &[u32]) {
     }
 }
 
-/// One to `most` counts of nodes, together at most 64 and now and then just that.
-fn counts(r: &mut Random, most: usize) -> Vec<usize> {
-    let (rules, full) = (1 + r.below(most as u64) as usize, r.chance(6));
-    let mut counts: Vec<usize> = (0..rules).map(|_| 1 + r.below(MAX_NODES as u64 / MAX_RULES as u64) as usize).collect();
-    if full {
-        let others: usize = counts[1..].iter().sum();
-        counts[0] = MAX_NODES - others;
-    }
-    counts
-}
-
-fn random_lines(r: &mut Random, most: usize) -> Vec<Line> {
-    let longest = r.pick(&[MAX_DELAY, MAX_DELAY, 300, 9]);
-    let counts = counts(r, most);
-    lines(r, &counts, longest)
-}
-
 #[test]
 fn printed_rules_are_read_back() {
     let mut r = Random(51);
     let (mut full, mut bracketed) = (0, 0);
     for round in 0..20_000 {
-        let typed = random_lines(&mut r, MAX_RULES);
+        let typed = any_lines(&mut r, MAX_RULES);
         let (table, text) = (typed::table(&typed), text(&mut r, &typed));
         assert_eq!(typed::read(&text), Ok(table.clone()), "{}", shown(&text));
         let mut bytes = dirt(round);
@@ -84,16 +67,13 @@ fn printed_rules_are_read_back() {
     assert!(full > 1_000 && bracketed > 10_000, "{full} {bracketed}");
 }
 
-/// Every byte that a line can hold, and some that none can.
-const BYTES: &[u8] = b" 0123456789:strufale!FGUR[,]()&|\n\0\t\rSgx-.{\x80\xff";
-
 fn damaged(text: &[u8], seen: &mut [u32; NUMBERS]) {
     let mut tried = |text: &[u8]| seen[compare(text).0 as usize] += 1;
     for at in 0..text.len() {
         tried(&text[..at]);
         let (before, after) = (&text[..at], &text[at + 1..]);
         tried(&[before, after].concat());
-        for byte in BYTES {
+        for byte in LINE_BYTES {
             tried(&[before, &[*byte], after].concat());
             tried(&[before, &[*byte], &text[at..]].concat());
         }
@@ -105,7 +85,7 @@ fn every_byte_damaged() {
     let mut r = Random(52);
     let mut seen = [0; NUMBERS];
     for _ in 0..100 {
-        let typed = random_lines(&mut r, 4);
+        let typed = any_lines(&mut r, 4);
         damaged(&text(&mut r, &typed), &mut seen);
     }
     // Texts at a limit: rules, depth, names, delays.
@@ -125,14 +105,14 @@ fn the_plain_reader_agrees() {
     let mut r = Random(56);
     let mut seen = [0; NUMBERS];
     for _ in 0..60_000 {
-        let mut typed = random_lines(&mut r, MAX_RULES);
+        let mut typed = any_lines(&mut r, MAX_RULES);
         if r.chance(20) {
             typed.last_mut().unwrap().name = 1;
             typed[0].name = 1;
         }
         let mut text = if r.chance(8) { format!("1:{}\n", chained(&mut r, MAX_DEPTH + 1)).into_bytes() } else { text(&mut r, &typed) };
         for _ in 0..r.below(3) {
-            let (at, byte) = (r.below(text.len() as u64) as usize, r.pick(BYTES));
+            let (at, byte) = (r.below(text.len() as u64) as usize, r.pick(LINE_BYTES));
             text.splice(at..at + r.below(2) as usize, [byte]);
         }
         seen[compare_reader(plain_text::read_text, &text).0 as usize] += 1;
@@ -583,7 +563,7 @@ fn a_typed_table_gives_the_books_verdicts() {
     let mut r = Random(54);
     let mut yes = [0u64; 2];
     for _ in 0..600 {
-        let typed = random_lines(&mut r, MAX_RULES);
+        let typed = any_lines(&mut r, MAX_RULES);
         let table = typed::table(&typed);
         let (mut of_text, mut of_book) = ([0; TABLE_BYTES], [0; TABLE_BYTES]);
         assert_eq!(read_text(&text(&mut r, &typed), &mut of_text), (OK, 0));

@@ -3,160 +3,21 @@ use juntreak_tests::header::limits::{BOOK_BYTES, MAX_BLOCK, MAX_DELAY, MAX_NAME,
 use juntreak_tests::header::refusals::{ARGUMENT, FORM, FULL, HEAD, INTERVAL, LENGTH, LINK, LONG, NAME, OK, OPERAND, RULELESS};
 use juntreak_tests::library;
 use juntreak_tests::model::{self, Node, Rule, Table};
-use juntreak_tests::place::{watch, Folder};
+use juntreak_tests::place::{watch_in, Folder};
 use juntreak_tests::program::expected;
 use juntreak_tests::random::{book, damage_book, redundant, table, trace, Random};
-use juntreak_tests::written::NEXT;
+use juntreak_tests::spawn::{full, run, run_in_chunks, same_lines, Running};
+use juntreak_tests::written::{NEXT, WORKED};
 use std::fs::File;
-use std::io::{Read, Write};
+use std::io::Write;
 use std::os::unix::process::ExitStatusExt;
-use std::process::{Child, ChildStdin, Command, ExitStatus, Stdio};
-use std::sync::mpsc::{channel, Receiver, RecvTimeoutError};
-use std::thread::{self, sleep};
-use std::time::{Duration, Instant};
+use std::process::Stdio;
+use std::thread::sleep;
+use std::time::Duration;
 
-/// A program that takes longer fails its test.
-const LIMIT: Duration = Duration::from_secs(30);
-
-/// What comes through a pipe, as it comes.
-fn pump(pipe: Option<impl Read + Send + 'static>) -> Receiver<Vec<u8>> {
-    let (sender, receiver) = channel();
-    if let Some(mut pipe) = pipe {
-        thread::spawn(move || {
-            let mut buffer = vec![0; 1 << 16];
-            while let Ok(n @ 1..) = pipe.read(&mut buffer) {
-                if sender.send(buffer[..n].to_vec()).is_err() {
-                    break;
-                }
-            }
-        });
-    }
-    receiver
-}
-
-/// Collects until there is enough or the pipe ends.
-fn gather(from: &Receiver<Vec<u8>>, all: &mut Vec<u8>, enough: usize) {
-    let deadline = Instant::now() + LIMIT;
-    while all.len() < enough {
-        match from.recv_timeout(deadline.saturating_duration_since(Instant::now())) {
-            Ok(bytes) => all.extend(bytes),
-            Err(RecvTimeoutError::Disconnected) => break,
-            Err(RecvTimeoutError::Timeout) => panic!("nothing more came after {} bytes, and no end", all.len()),
-        }
-    }
-}
-
-/// The running program and what it has printed.
-struct Running {
-    child: Child,
-    out: Receiver<Vec<u8>>,
-    err: Receiver<Vec<u8>>,
-    printed: Vec<u8>,
-}
-
-/// How the program ended.
-struct Ended {
-    printed: Vec<u8>,
-    message: Vec<u8>,
-    status: ExitStatus,
-}
-
-impl Running {
-    fn start(folder: &Folder, input: Stdio, output: Stdio) -> Running {
-        let mut command = Command::new(watch());
-        let mut child = command.current_dir(&folder.0).stdin(input).stdout(output).stderr(Stdio::piped()).spawn().unwrap();
-        let (out, err) = (pump(child.stdout.take()), pump(child.stderr.take()));
-        Running { child, out, err, printed: vec![] }
-    }
-
-    /// Started with pipes.
-    fn piped(folder: &Folder) -> (Running, ChildStdin) {
-        let mut running = Running::start(folder, Stdio::piped(), Stdio::piped());
-        let input = running.child.stdin.take().unwrap();
-        (running, input)
-    }
-
-    /// Waits until so many bytes are printed.
-    fn wait_for(&mut self, bytes: usize) -> &[u8] {
-        gather(&self.out, &mut self.printed, bytes);
-        &self.printed
-    }
-
-    fn end(mut self) -> Ended {
-        let mut message = vec![];
-        gather(&self.out, &mut self.printed, usize::MAX);
-        gather(&self.err, &mut message, usize::MAX);
-        let deadline = Instant::now() + LIMIT;
-        loop {
-            if let Some(status) = self.child.try_wait().unwrap() {
-                return Ended { printed: std::mem::take(&mut self.printed), message, status };
-            }
-            assert!(Instant::now() < deadline, "the program does not end");
-            sleep(Duration::from_micros(100));
-        }
-    }
-}
-
-impl Drop for Running {
-    fn drop(&mut self) {
-        let _ = self.child.kill();
-        let _ = self.child.wait();
-    }
-}
-
-impl Ended {
-    /// What was printed by a program that ended of itself and had no error to tell.
-    fn quietly(self) -> Vec<u8> {
-        assert!(self.status.code().is_some(), "{}", self.status);
-        assert!(self.message.is_empty(), "{}", String::from_utf8_lossy(&self.message));
-        self.printed
-    }
-
-    /// The program told an error and printed nothing.
-    fn with_a_message(self) {
-        assert!(self.status.code().is_some(), "{}", self.status);
-        assert!(!self.message.is_empty(), "no message on standard error");
-        assert!(self.printed.is_empty(), "{}", String::from_utf8_lossy(&self.printed));
-    }
-}
-
-/// Writes the input in chunks, with a pause at some of them, and closes the pipe. A program that ended early reads no more.
-fn write_chunks(mut to: ChildStdin, input: &[u8], chunk: usize) {
-    let pause = input.len().div_ceil(chunk).div_ceil(20);
-    for (i, part) in input.chunks(chunk).enumerate() {
-        if to.write_all(part).and_then(|()| to.flush()).is_err() {
-            return;
-        }
-        if i % pause == pause - 1 && i > 0 {
-            sleep(Duration::from_micros(500));
-        }
-    }
-}
-
-/// What the program prints for an input that comes through a pipe in chunks.
-fn printed_in_chunks(folder: &Folder, input: &[u8], chunk: usize) -> Vec<u8> {
-    let (running, pipe) = Running::piped(folder);
-    thread::scope(|s| {
-        s.spawn(|| write_chunks(pipe, input, chunk));
-        running.end().quietly()
-    })
-}
-
+/// What the program prints for an input that comes through a pipe.
 fn printed(folder: &Folder, input: &[u8]) -> Vec<u8> {
-    printed_in_chunks(folder, input, input.len().max(1))
-}
-
-/// Fails at the first line that differs.
-fn same_lines(got: &[u8], want: &[u8]) {
-    if got == want {
-        return;
-    }
-    let (mut g, mut w) = (got.split_inclusive(|b| *b == 10), want.split_inclusive(|b| *b == 10));
-    for line in 1.. {
-        let (g, w) = (g.next(), w.next());
-        let text = |x: Option<&[u8]>| x.map(|x| String::from_utf8_lossy(x).into_owned());
-        assert_eq!(text(g), text(w), "line {line} of the output");
-    }
+    run(watch_in(folder), input).quietly()
 }
 
 /// The delay of the first rule in the simplified table. It is the library's own, because the simplified table is free within its
@@ -268,14 +129,6 @@ fn with_line(input: &[u8], at: usize, line: &[u8]) -> Vec<u8> {
     let (before, after) = lines.split_at(at);
     [&before.concat(), line, b"\n", &after.concat()].concat()
 }
-
-/// The book of document 01's worked example.
-const WORKED: [u8; 4 * RECORD_BYTES] = [
-    0, 0, 0, 0, 0, 0, 0, 0, 1, 0, 0, 0, //
-    1, 0, 0, 0, 0, 0, 0, 0, 2, 0, 0, 0, //
-    7, 0, 1, 0, 3, 0, 1, 0, 3, 0, 0, 0, //
-    11, 7, 0, 0, 0, 0, 2, 0, 0, 0, 0, 0,
-];
 
 #[test]
 fn worked_example() {
@@ -509,11 +362,11 @@ fn lengths_of_the_book() {
 #[test]
 fn refused_books_need_no_input() {
     for folder in [Folder::empty(), Folder::with_rules(&WORKED[..47])] {
-        let (running, pipe) = Running::piped(&folder);
+        let (running, pipe) = Running::piped(watch_in(&folder), Stdio::piped());
         same_lines(&running.end().quietly(), b"book 1 0\n");
         drop(pipe);
-        let unreadable = Stdio::from(File::open(&folder.0).unwrap());
-        same_lines(&Running::start(&folder, unreadable, Stdio::piped()).end().quietly(), b"book 1 0\n");
+        let unreadable = File::open(&folder.0).unwrap();
+        same_lines(&Running::start(watch_in(&folder), unreadable, Stdio::piped()).end().quietly(), b"book 1 0\n");
     }
 }
 
@@ -530,7 +383,7 @@ fn chunks() {
         for input in [&good, &good[..good.len() - 1], &bad] {
             let want = wanted(&b, input);
             for chunk in chunks {
-                same_lines(&printed_in_chunks(&folder, input, *chunk), &want);
+                same_lines(&run_in_chunks(watch_in(&folder), input, *chunk).quietly(), &want);
             }
         }
     }
@@ -546,10 +399,10 @@ fn input_from_a_file() {
         let input = random_text(&mut r, lines);
         folder.write("states", &input);
         let states = File::open(folder.0.join("states")).unwrap();
-        let running = Running::start(&folder, states.into(), Stdio::piped());
+        let running = Running::start(watch_in(&folder), states, Stdio::piped());
         same_lines(&running.end().quietly(), &wanted(&b, &input));
     }
-    same_lines(&Running::start(&folder, Stdio::null(), Stdio::piped()).end().quietly(), b"");
+    same_lines(&Running::start(watch_in(&folder), Stdio::null(), Stdio::piped()).end().quietly(), b"");
 }
 
 #[test]
@@ -575,7 +428,7 @@ fn live_pipe() {
         let ends = |text: &[u8]| -> Vec<usize> { (1..=text.len()).filter(|i| text[i - 1] == 10).collect() };
         let (read, print) = (ends(&input), ends(&all));
         let folder = Folder::with_rules(&b);
-        let (mut running, mut pipe) = Running::piped(&folder);
+        let (mut running, mut pipe) = Running::piped(watch_in(&folder), Stdio::piped());
         let mut sent = 0;
         for block in 1..=6 {
             let upto = read[MAX_BLOCK * block - 1];
@@ -599,18 +452,14 @@ fn live_pipe() {
 fn failed_reads() {
     let folder = Folder::empty();
     std::fs::create_dir(folder.0.join("rules.bin")).unwrap();
-    let (running, mut pipe) = Running::piped(&folder);
+    let (running, mut pipe) = Running::piped(watch_in(&folder), Stdio::piped());
     let _ = pipe.write_all(b"0\n");
     drop(pipe);
     running.end().with_a_message();
 
     let folder = Folder::with_rules(&WORKED);
-    let unreadable = Stdio::from(File::open(&folder.0).unwrap());
-    Running::start(&folder, unreadable, Stdio::piped()).end().with_a_message();
-}
-
-fn full() -> Stdio {
-    File::options().write(true).open("/dev/full").unwrap().into()
+    let unreadable = File::open(&folder.0).unwrap();
+    Running::start(watch_in(&folder), unreadable, Stdio::piped()).end().with_a_message();
 }
 
 /// Standard output without room: for a block's verdicts while the pipe is open, for the last ones, for a bad line and for a refusal.
@@ -624,8 +473,7 @@ fn failed_writes() {
         (&WORKED[..47], b"", false),
     ] {
         let folder = Folder::with_rules(rules);
-        let mut running = Running::start(&folder, Stdio::piped(), full());
-        let mut pipe = running.child.stdin.take().unwrap();
+        let (running, mut pipe) = Running::piped(watch_in(&folder), full());
         let _ = pipe.write_all(input);
         let kept = open.then_some(pipe);
         running.end().with_a_message();
@@ -639,8 +487,7 @@ fn nobody_reads() {
     let folder = Folder::with_rules(&finally_book(8, 5));
     let (reader, writer) = std::io::pipe().unwrap();
     drop(reader);
-    let mut running = Running::start(&folder, Stdio::piped(), writer.into());
-    let mut pipe = running.child.stdin.take().unwrap();
+    let (running, mut pipe) = Running::piped(watch_in(&folder), writer);
     let _ = pipe.write_all(&random_text(&mut Random(52), 3000));
     let ended = running.end();
     assert!(!ended.message.is_empty() || ended.status.signal() == Some(13), "{}", ended.status);

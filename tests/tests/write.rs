@@ -12,7 +12,7 @@ use juntreak_tests::random::{
     any_table, asked, book, bytes, damage, damaged_table, law_free, lines, redundant, short_words, table, text, trace, words, Random,
 };
 use juntreak_tests::typed;
-use juntreak_tests::written::{self, Record, NEXT};
+use juntreak_tests::written::{self, Record, NEXT, WORKED};
 use juntreak_tests::{only_read, same};
 
 /// Bytes before and behind the output that are not lent, more than any book has.
@@ -200,11 +200,10 @@ fn smallest_tables() {
 /// The book that document 01 runs watch with is the written one.
 #[test]
 fn worked_book() {
-    let worked = include_bytes!("../../examples/rules.bin");
-    assert_eq!(book_of(&table_of(worked)), worked);
+    assert_eq!(book_of(&table_of(&WORKED)), WORKED);
     let mut table = [0; TABLE_BYTES];
     assert_eq!(read_text(b"7: F[1,3] s0\n", &mut table), (OK, 0));
-    assert_eq!(book_of(&table), worked);
+    assert_eq!(book_of(&table), WORKED);
 }
 
 /// Typed rules and their books: all rules stand behind all nodes.
