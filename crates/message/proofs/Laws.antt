@@ -2,10 +2,10 @@
 use Prim.Native.Nat.{ℕ, zero, suc, _+_, _-_, _≤_, _<_, min}
 use native.Mathlib.Numerals.{add-one}
 use native.Mathlib.Omega.{arith}
-use mathlib.Core.Path.{_≡_, refl}
+use mathlib.Core.Path.{_≡_, refl, sym}
 use mathlib.Core.Bool.{Bool, true, false, _&&_}
-use mathlib.Core.List.{List, [], _∷_, _++_, append-nil}
-use borrow.Author.Tests.{eq-eqb, ne-eqb, lt-ltb, le-ltb, lt-leb, le-leb}
+use mathlib.Core.List.{List, [], _∷_, _++_}
+use borrow.Author.Tests.{eq-eqb, ne-eqb, lt-ltb, le-ltb, lt-leb}
 use lib.Dec.{eqb, leb}
 use lib.ListN.{length, getD, take, drop, length-append, drop-of-length-le}
 use lib.Seq.{drop-cons}
@@ -13,6 +13,8 @@ use Rattle.lists.specs.Choice.{pick}
 use Rattle.rows.specs.Rows.{Put, PutIfRoom}
 use Rattle.rows.proofs.Laws.{put-then, put-length}
 use Rattle.message.specs.Message.{maxText, placed, machineLine, Sentence, sentences, said, placeShown, refusalMessage, linesBefore, lineStart, lineEnd, upToEnd, shownBytes, shownBefore, shownFrom}
+use Rattle.message.proofs.Lines.{stays, next-line, first-line}
+use Rattle.message.proofs.Whole.{message-short, message-at}
 use Rattle.message.specs.Code.Steps.{Fit, machineMost, sentenceMost, placeMost, indentMost}
 
 -- ---- pieces
@@ -52,10 +54,6 @@ said-later [] n e = refl
 said-later (s ∷ ss) n e = rw (ne-eqb n (s .number) e)
 
 -- ---- lines
-pub lines-none : (bs : List ℕ) → 0 ≡ linesBefore bs 0
-unfolding linesBefore
-lines-none bs = refl
-
 pub lines-more : (bs : List ℕ) (i : ℕ) {n v : ℕ} → n ≡ linesBefore bs i → v ≡ pick (eqb (getD bs i 0) 10) 1 0 → n + v ≡ linesBefore bs (i + 1)
 unfolding linesBefore
 lines-more bs i e d = rw (add-one i, ← d, ← e)
@@ -66,22 +64,19 @@ one-most false e = omega arith
 
 module _ (bs : List ℕ) where
   pub start-here : (i : ℕ) → 0 < i → getD bs (i - 1) 0 ≡ 10 → i ≡ lineStart bs i
-  unfolding lineStart
   start-here zero h e = absurd (omega arith)
   start-here (suc i) h e =
       let d : suc i - 1 ≡ i = omega arith in
-      rw (eq-eqb (getD bs i 0) 10 (rw d at e))
+      sym (next-line bs i (rw d at e) .1)
 
   pub start-before : (i : ℕ) → 0 < i → (getD bs (i - 1) 0 ≡ 10 → ⊥) → lineStart bs i ≡ lineStart bs (i - 1)
-  unfolding lineStart
   start-before zero h e = absurd (omega arith)
   start-before (suc i) h e =
       let d : suc i - 1 ≡ i = omega arith in
-      rw (d, ne-eqb (getD bs i 0) 10 (rw d at e))
+      rw d (stays bs i (ne-eqb (getD bs i 0) 10 (rw d at e)) .start)
 
   pub start-first : (i : ℕ) → i ≡ 0 → i ≡ lineStart bs i
-  unfolding lineStart
-  start-first i e = rw e
+  start-first i e = rw e (sym (first-line bs .1))
 
   pub end-here : (i : ℕ) → i < length bs → getD bs i 0 ≡ 10 → i ≡ lineEnd bs i
   unfolding upToEnd
@@ -97,11 +92,10 @@ module _ (bs : List ℕ) where
 
 -- ---- all of it
 module _ (bs : List ℕ) (number place : ℕ) {old a b : List ℕ} {n m : ℕ} (line : Fit old 0 (machineLine number place) a n machineMost) (sentence : Fit a n (said sentences number) b m sentenceMost) where
-  none-shown : (placed number && leb (length bs) maxText) ≡ false → Put old 0 (refusalMessage bs number place) b m
-  unfolding refusalMessage
-  none-shown e = rw (e, append-nil (machineLine number place ++ said sentences number)) (fit-then line sentence .put)
-
   -- told with a line; of a text that is too long; and with its place
+  none-shown : (placed number && leb (length bs) maxText) ≡ false → Put old 0 (refusalMessage bs number place) b m
+  none-shown e = rw (message-short bs number place e) (fit-then line sentence .put)
+
   pub told-line : placed number ≡ false → Put old 0 (refusalMessage bs number place) b m
   told-line e = none-shown (rw e)
 
@@ -110,10 +104,7 @@ module _ (bs : List ℕ) (number place : ℕ) {old a b : List ℕ} {n m : ℕ} (
 
   pub told-place : placed number ≡ true → length bs ≤ maxText → {c : List ℕ} {k p : ℕ} → p ≡ min place (length bs) → Fit b m (placeShown bs p) c k placeMost
       → Put old 0 (refusalMessage bs number place) c k
-  unfolding refusalMessage
-  told-place e h {c} {k} {p} w shown =
-      let chosen : pick (placed number && leb (length bs) maxText) (placeShown bs (min place (length bs))) [] ≡ placeShown bs p = rw (e, le-leb (length bs) maxText h, ← w) in
-      rw chosen (fit-then (fit-then line sentence) shown .put)
+  told-place e h w shown = rw (message-at bs number place e h w) (fit-then (fit-then line sentence) shown .put)
 
 -- ---- the part of a line that is shown
 module _ (s e p : ℕ) where

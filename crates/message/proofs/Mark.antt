@@ -1,5 +1,5 @@
 -- The mark stands under the place. Assumes nothing.
-use Prim.Native.Nat.{ℕ, zero, suc, _+_, _-_, _≤_, _<_}
+use Prim.Native.Nat.{ℕ, zero, suc, _+_, _-_, _≤_, _<_, min}
 use native.Mathlib.Omega.{arith}
 use mathlib.Core.Path.{_≡_, refl, sym, ap, _∙_}
 use mathlib.Core.Logic.{⊎-elim}
@@ -26,17 +26,13 @@ start-below bs (suc p) = go (eqb (getD bs p 0) 10) (start-below bs p)
     go true h = omega arith
     go false h = omega arith
 
--- a place before the end of its line is shown
-module _ (s e p : ℕ) (h : s ≤ p) (k : p < e) where
-  from-below : (shownFrom s e p ≤ p) × (p < shownFrom s e p + shownBytes)
-  from-below =
-      ⊎-elim
-      (λ (l : shownBytes < e - s). rw (lt-ltb shownBytes (e - s) l) (omega arith, omega arith))
-      (λ (l : e - s ≤ shownBytes). rw (le-ltb shownBytes (e - s) l) (omega arith, omega arith))
-      (lt-or-le shownBytes (e - s))
-
-  place-shown : p - shownFrom s e p < shownTo s e p - shownFrom s e p
-  place-shown = let b = from-below in omega (arith, b .0, b .1)
+-- a place of a line is shown, and so is the line's end where it is the place
+from-below : (s e p : ℕ) → s ≤ p → p ≤ e → (shownFrom s e p ≤ p) × (min (p + 1) e ≤ shownFrom s e p + shownBytes)
+from-below s e p h k =
+    ⊎-elim
+    (λ (l : shownBytes < e - s). rw (lt-ltb shownBytes (e - s) l) (omega arith, omega arith))
+    (λ (l : e - s ≤ shownBytes). rw (le-ltb shownBytes (e - s) l) (omega arith, omega arith))
+    (lt-or-le shownBytes (e - s))
 
 dots-length : (cut : Bool) → length (dots cut) ≡ pick cut 3 0
 dots-length true = refl
@@ -50,8 +46,8 @@ under-place bs s e p h k =
     let f : ℕ → ℕ = λ i. shownByte (getD bs (from + i) 0) in
     let d = dots (ltb s from) in
     let x = dots (ltb (shownTo s e p) e) in
-    let b = from-below s e p h k in
-    let i : p - from < n = place-shown s e p h k in
+    let b = from-below s e p h (omega arith) in
+    let i : p - from < n = omega (arith, b .0, b .1) in
     let at : markAt s e p ≡ length d + (p - from) = ap (λ (j : ℕ). j + (p - from)) (sym (dots-length (ltb s from))) in
     let l : length (d ++ ticks f n) ≡ length d + n = length-append d (ticks f n) ∙ ap (λ (j : ℕ). length d + j) (length-ticks f n) in
     let w : length (d ++ ticks f n ++ x) ≡ length d + n + length x = length-append (d ++ ticks f n) x ∙ ap (λ (j : ℕ). j + length x) l in
@@ -64,25 +60,17 @@ under-place bs s e p h k =
     ∙ ap (λ (j : ℕ). shownByte (getD bs j 0)) same
 
 -- and where the place is the line's end, the mark stands behind its last byte
-module _ (s e : ℕ) (h : s ≤ e) where
-  end-shown : (shownFrom s e e ≤ e) × (shownTo s e e ≡ e)
-  end-shown =
-      ⊎-elim
-      (λ (l : shownBytes < e - s). rw (lt-ltb shownBytes (e - s) l) (omega arith, omega arith))
-      (λ (l : e - s ≤ shownBytes). rw (le-ltb shownBytes (e - s) l) (omega arith, omega arith))
-      (lt-or-le shownBytes (e - s))
-
-  pub behind-line : (bs : List ℕ) → length (shownLine bs s e e) ≡ markAt s e e + 1
-  behind-line bs =
-      let from = shownFrom s e e in
-      let to = shownTo s e e in
-      let f : ℕ → ℕ = λ i. shownByte (getD bs (from + i) 0) in
-      let d = dots (ltb s from) in
-      let b = end-shown in
-      let x : length (dots (ltb to e)) ≡ 0 = rw (b .1, le-ltb e e (omega arith)) refl in
-      let l = length-append d (ticks f (to - from)) ∙ ap (λ (j : ℕ). length d + j) (length-ticks f (to - from)) in
-      let w = length-append (d ++ ticks f (to - from)) (dots (ltb to e)) in
-      let z = length-append (d ++ ticks f (to - from) ++ dots (ltb to e)) (ascii "\n") in
-      let k = dots-length (ltb s from) in
-      let t = b .1 in
-      omega (arith, l, w, z, x, k, t)
+pub behind-line : (s e : ℕ) → s ≤ e → (bs : List ℕ) → length (shownLine bs s e e) ≡ markAt s e e + 1
+behind-line s e h bs =
+    let from = shownFrom s e e in
+    let to = shownTo s e e in
+    let f : ℕ → ℕ = λ i. shownByte (getD bs (from + i) 0) in
+    let d = dots (ltb s from) in
+    let b = from-below s e e h (omega arith) in
+    let t : to ≡ e = omega (arith, b .1) in
+    let x : length (dots (ltb to e)) ≡ 0 = rw (t, le-ltb e e (omega arith)) refl in
+    let l = length-append d (ticks f (to - from)) ∙ ap (λ (j : ℕ). length d + j) (length-ticks f (to - from)) in
+    let w = length-append (d ++ ticks f (to - from)) (dots (ltb to e)) in
+    let z = length-append (d ++ ticks f (to - from) ++ dots (ltb to e)) (ascii "\n") in
+    let k = dots-length (ltb s from) in
+    omega (arith, l, w, z, x, k, t, b .0)

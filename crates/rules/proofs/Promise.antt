@@ -3,14 +3,12 @@ use Prim.Native.Nat.{ℕ, _-_, _+_, _≤_, _<_, min}
 use native.Mathlib.Omega.{arith}
 use mathlib.Core.Path.{_≡_, refl, sym, ap, subst, _∙_}
 use mathlib.Core.Logic.{inl, inr, ⊎-elim}
-use mathlib.Core.Bool.{Bool, true, false, _&&_, false≢true}
+use mathlib.Core.Bool.{Bool, true, false, false≢true}
 use mathlib.Core.List.{List, [], _++_}
-use borrow.Author.Tests.{le-leb, eqb-true, eqb-false, ne-eqb}
-use lib.Dec.{leb, eqb}
-use lib.ListN.{length, getD, length-append}
+use borrow.Author.Tests.{eqb-true, eqb-false, ne-eqb}
+use lib.Dec.{eqb}
+use lib.ListN.{length, getD}
 use Rattle.refusals.specs.Numbers.{SYNTAX, DEEP}
-use Rattle.lists.specs.Ascii.{ascii}
-use Rattle.lists.specs.Choice.{pick}
 use Rattle.lists.specs.Sequence.{among}
 use Rattle.lists.proofs.Tests.{lt-or-le}
 use Rattle.table.specs.declared.Table.{Table}
@@ -25,9 +23,9 @@ use Rattle.text.specs.Outcome.{Reached, lineFaults, Outcome, empty, byte, deep,
 use Rattle.text.proofs.Outcomes.{outcome}
 use Rattle.text.proofs.Numbers.{line-answer, numbers}
 use Rattle.text.proofs.Sounds.{typed-sound}
-use Rattle.rows.specs.Rows.{decimal}
 use Rattle.rows.proofs.Laws.{put-bytes}
-use Rattle.message.specs.Message.{maxText, placed, machineLine, sentences, said, lineEnd, whereLine, shownByte, shownLine, markAt, markLine, placeShown, refusalMessage}
+use Rattle.message.specs.Message.{maxText, placed, machineLine, sentences, said, lineEnd, whereLine, shownByte, shownLine, markAt, markLine, refusalMessage}
+use Rattle.message.proofs.Whole.{message-at, message-some}
 use Rattle.message.proofs.Sentences.{sentence-some}
 use Rattle.message.proofs.Mark.{start-below, under-place, behind-line}
 use Rattle.rules.specs.Output.{Output, OneEmpty, output, InLine, FaultTold, Relied}
@@ -38,13 +36,9 @@ use Rattle.rules.proofs.Places.{in-line-32, in-line-33}
 module _ {text : List ℕ} (short : length text ≤ maxText) {p i line : ℕ} (w : InLine text p i line) where
   shown-as : (number : ℕ) → placed number ≡ true
       → refusalMessage text number p ≡ machineLine number p ++ said sentences number ++ (whereLine line (p - i + 1) ++ shownLine text i (lineEnd text p) p ++ markLine i (lineEnd text p) p)
-  unfolding refusalMessage
   shown-as number e =
-      let m : min p (length text) ≡ p = omega (arith, w .inside) in
-      let chosen : pick (placed number && leb (length text) maxText) (placeShown text (min p (length text))) []
-      ≡ whereLine line (p - i + 1) ++ shownLine text i (lineEnd text p) p ++ markLine i (lineEnd text p) p
-      = rw (e, le-leb (length text) maxText short, m, w .counted, w .start) in
-      rw chosen
+      let m : p ≡ min p (length text) = omega (arith, w .inside) in
+      rw (message-at text number p e short m, w .counted, w .start)
 
   above-mark : p < lineEnd text p → getD (shownLine text i (lineEnd text p) p) (markAt i (lineEnd text p) p) 0 ≡ shownByte (getD text p 0)
   above-mark h = under-place text i (lineEnd text p) p (rw (w .start) at (start-below text p)) h
@@ -93,21 +87,9 @@ module _ {text : List ℕ} (short : length text ≤ maxText) where
 read-as : (text : List ℕ) → length text ≤ maxText → typed text .number ≡ 0 → reading (output text .book) ≡ accepted (typed text .table)
 read-as text h z = ap (λ (o : Output). reading (o .book)) (output-book text h z) ∙ sound-reads (typed text .table) (typed-sound text z)
 
--- ---- a book has bytes, and a message has
+-- ---- a book has bytes, as a message has
 book-some : (t : Table) → ¬ (bookOf t ≡ [])
 book-some t e = let n : _≡_ {A = ℕ} (bookLength t) 0 = sym (length-book t) ∙ ap length e in omega arith
-
-line-some : (number place : ℕ) → 1 ≤ length (machineLine number place)
-line-some number place = omega (arith, length-append (ascii "text " ++ decimal number ++ pick (placed number) (ascii " ") (ascii " line ") ++ decimal place) (ascii "\n"))
-
-message-some : (text : List ℕ) (number place : ℕ) → ¬ (refusalMessage text number place ≡ [])
-unfolding refusalMessage
-message-some text number place e =
-    let a = length-append (machineLine number place ++ said sentences number) (pick (placed number && leb (length text) maxText) (placeShown text (min place (length text))) []) in
-    let b = length-append (machineLine number place) (said sentences number) in
-    let c = line-some number place in
-    let n : _≡_ {A = ℕ} (length (refusalMessage text number place)) 0 = ap length e in
-    omega (arith, a, b, c, n)
 
 one-empty : (text : List ℕ) → OneEmpty (output text)
 one-empty text = ⊎-elim (λ (h : maxText < length text). by (output-long text h) (inr (refl, λ e. let n : _≡_ {A = ℕ} 39 0 = ap length e in omega arith))) (go (eqb (typed text .number) 0) refl) (lt-or-le maxText (length text))

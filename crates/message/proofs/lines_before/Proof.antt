@@ -1,12 +1,13 @@
 -- The invariant: the line ends before i are counted. Assumes nothing.
 use Prim.Native.Nat.{_-_, _≤_}
 use native.Mathlib.Omega.{arith}
-use mathlib.Core.Path.{_≡_}
+use mathlib.Core.Path.{_≡_, sym}
 use lib.Dec.{eqb}
 use lib.ListN.{getD}
 use borrow.Author.Needs.{needs}
 use Rattle.message.specs.Message.{linesBefore}
-use Rattle.message.proofs.Laws.{lines-none, lines-more, one-most}
+use Rattle.message.proofs.Lines.{first-line}
+use Rattle.message.proofs.Laws.{lines-more, one-most}
 use Rattle.message.proofs.lines_before.Statement.{statement}
 use Rattle.message.proofs.lines_before.Tie as tie
 
@@ -35,5 +36,5 @@ pub lines-before-spec : {M : Type 1} → statement M
 lines-before-spec =
     tie.close
     (tie.spec
-    Inv-loop μ-loop (λ c. (omega arith, lines-none _, omega arith)) (search needs) (search needs) (search needs)
+    Inv-loop μ-loop (λ c. (omega arith, sym (first-line _ .0), omega arith)) (search needs) (search needs) (search needs)
     (λ c. omega (arith, few c, c .before .before .before .loop .inv .2)) (search needs) (search needs) loop-again returns)
