@@ -25,6 +25,7 @@ extern "C" {
 #define JUNTREAK_WRITTEN_BYTES 876 /* the longest book that is written */
 #define JUNTREAK_TABLE_BYTES 546   /* a table */
 #define JUNTREAK_SESSION_BYTES 558 /* a session */
+#define JUNTREAK_NARROW_BYTES 558  /* a narrow session, see juntreak_widen */
 
 /* Sizes in elements. A buffer may be longer. */
 #define JUNTREAK_HISTORY_WORDS 4095        /* least length of history, uint32_t */
@@ -35,19 +36,20 @@ extern "C" {
 #define JUNTREAK_REGISTER_WORDS 80         /* words of a node's register in the scratch */
 
 /* Limits. */
-#define JUNTREAK_MAX_RECORDS 255      /* records of a book, the head included */
-#define JUNTREAK_MAX_NODES 64         /* nodes of a table */
-#define JUNTREAK_MAX_RULES 8          /* rules of a table */
-#define JUNTREAK_MAX_SIGNAL 31        /* the largest signal */
-#define JUNTREAK_MAX_NAME 255         /* the largest name of a rule */
-#define JUNTREAK_MAX_INTERVAL 4095    /* hi of an interval */
-#define JUNTREAK_MAX_PARTS 12         /* parts of an interval */
-#define JUNTREAK_MAX_DELAY 4095       /* delay of a node */
-#define JUNTREAK_MAX_STATE 4294967295 /* the largest state */
-#define JUNTREAK_MAX_TRACE 5120       /* states of a whole trace */
-#define JUNTREAK_MAX_BLOCK 1024       /* states of one feed */
-#define JUNTREAK_MAX_SEEN 4294967295  /* states of a session from its opening on */
-#define JUNTREAK_MAX_DEPTH 32         /* brackets of a typed rule that are open at once */
+#define JUNTREAK_MAX_RECORDS 255                /* records of a book, the head included */
+#define JUNTREAK_MAX_NODES 64                   /* nodes of a table */
+#define JUNTREAK_MAX_RULES 8                    /* rules of a table */
+#define JUNTREAK_MAX_SIGNAL 31                  /* the largest signal */
+#define JUNTREAK_MAX_NAME 255                   /* the largest name of a rule */
+#define JUNTREAK_MAX_INTERVAL 4095              /* hi of an interval */
+#define JUNTREAK_MAX_PARTS 12                   /* parts of an interval */
+#define JUNTREAK_MAX_DELAY 4095                 /* delay of a node */
+#define JUNTREAK_MAX_STATE 4294967295           /* the largest state */
+#define JUNTREAK_MAX_TRACE 5120                 /* states of a whole trace */
+#define JUNTREAK_MAX_BLOCK 1024                 /* states of one feed */
+#define JUNTREAK_MAX_SEEN 18446744073709551615u /* states of a session from its opening on */
+#define JUNTREAK_MAX_NARROW_SEEN 4294967295     /* the same of a narrow session */
+#define JUNTREAK_MAX_DEPTH 32                   /* brackets of a typed rule that are open at once */
 
 /* Least length of out for a whole trace of n states. */
 #define JUNTREAK_WHOLE_WORDS(n) ((n) / 64 + ((n) % 64 != 0))
@@ -76,7 +78,7 @@ enum {
     JUNTREAK_ABSENT = 21,   /* rule number not below the rule count */
     JUNTREAK_STATES = 22,   /* above 1024 states (feed) or 5120 (whole trace, early) */
     JUNTREAK_BUFFER = 23,   /* history, scratch or out too short */
-    JUNTREAK_SEEN = 24,     /* seen + k above 4294967295 */
+    JUNTREAK_SEEN = 24,     /* seen + k above 18446744073709551615 */
     JUNTREAK_TICK = 31,     /* tick not below the states given */
     /* Typed rules, answered with a place in the text, from 0. */
     JUNTREAK_SYNTAX = 32,   /* a byte, or the text's end, that no line can have there */
@@ -124,6 +126,10 @@ enum {
 #define JUNTREAK_NODE_AT(i) (2 + 8 * (i))   /* kind, argument, lo (2), hi (2), left, right */
 #define JUNTREAK_RULE_AT(i) (514 + 4 * (i)) /* name (2), watched node, zero */
 
+/* Places in a session's bytes, behind its table. */
+#define JUNTREAK_RULE_NUMBER_AT 546 /* the rule number (4) */
+#define JUNTREAK_SEEN_AT 550        /* seen (8) */
+
 /* The name of rule i of a table. */
 #define JUNTREAK_RULE_NAME(table, i) \
     ((unsigned)(table)[JUNTREAK_RULE_AT(i)] + 256u * (table)[JUNTREAK_RULE_AT(i) + 1])
@@ -146,7 +152,9 @@ enum {
  * A session is 558 bytes.
  *   0..545   its table
  *   546..549 the rule number
- *   550..557 seen, the count of states fed, at most 4294967295
+ *   550..557 seen, the count of states fed
+ * A narrow session is one of a library whose count of states had 32 bits: the
+ * same 558 bytes, with seen at most 4294967295.
  *
  * Verdicts in out: verdict i is bit i % 64 of word i / 64.
  *
@@ -249,6 +257,17 @@ uint32_t juntreak_simplify(uint8_t table[JUNTREAK_TABLE_BYTES]);
  * 21. If it is 0, the session is written. */
 uint32_t juntreak_open(const uint8_t table[JUNTREAK_TABLE_BYTES],
                        uint32_t rule, uint8_t session[JUNTREAK_SESSION_BYTES]);
+
+/* Widens a narrow session, as the earlier library left it, into another
+ * buffer: call it once, before this library's first other call on the session.
+ * Answers the number: 0, or 25 if its table is not sound, its rule number not
+ * below the rule count, or its seen above 4294967295. If it is 0, the session
+ * is written, with the same table, rule number and seen: it goes on with the
+ * same history, as if it had been opened by juntreak_open and fed all that the
+ * narrow one was fed. Bytes do not tell which library left them: a session of
+ * this one is taken too while its seen is in range. */
+uint32_t juntreak_widen(const uint8_t narrow[JUNTREAK_NARROW_BYTES],
+                        uint8_t session[JUNTREAK_SESSION_BYTES]);
 
 /* Feeds a block of k states, k at most 1024. D is the delay of the session's
  * rule. The caller lends the same history to every call on a session; its

@@ -33,12 +33,12 @@ module _ (w : World) where
     abbrev n : ℕ
     n = first (rowsOf w a s h x)
 
-    pub effect-number : effectOf w a s h x .number ≡ n
+    effect-number : effectOf w a s h x .number ≡ n
     unfolding effectOf
     effect-number =
         ⊎-elim (λ (b : eqb n 0 ≡ true). rw b (done-number a s h ∙ sym (eqb-true n 0 b))) (λ (b : eqb n 0 ≡ false). rw b) (true-or-false (eqb n 0))
 
-    pub effect-accepted : effectOf w a s h x .number ≡ 0 → effectOf w a s h x ≡ done w a s h
+    effect-accepted : effectOf w a s h x .number ≡ 0 → effectOf w a s h x ≡ done w a s h
     unfolding effectOf
     effect-accepted e =
         ⊎-elim (λ (b : eqb n 0 ≡ true). rw b) (λ (b : eqb n 0 ≡ false). absurd (eqb-false n 0 b (rw b at e))) (true-or-false (eqb n 0))
@@ -77,7 +77,7 @@ module _ (w : World) where
       changed w s r h ≡ record {
         number = 0;
         verdicts = ticks (w .run r kept) (length kept - w .D r);
-        session = record { rule = r; seen = length kept; firstTick = s .firstTick + s .seen - heldBy w s; phase = s .phase };
+        session = record { rule = r; seen = length kept; firstTick = s .firstTick + s .seen - heldBy w s; width = s .width };
         history = lastOf (w .D r) kept ++ drop (min (length kept) (w .D r)) h;
       }
   changed-plainly s r h =

@@ -4,7 +4,7 @@ mod Stream
 mod Effects
 -- every list keeps the claim
 pub mod Listed
--- no change, a widening, another measure
+-- no change, another measure
 pub mod Corollaries
 -- lists of other calls
 mod Viewed

@@ -11,7 +11,7 @@ use lib.Seq.{take-nil, take-all, take-append-le}
 use Rattle.lists.specs.Choice.{pick, first}
 use Rattle.lists.proofs.Tests.{lt-or-le}
 use Rattle.lists.proofs.Rows.{no-row}
-use Rattle.acts.specs.World.{World, Phase, narrow, wide, limit, Session, Act, feed, close, widen, change, Effect, done, heldBy, lastRows, Takes, Lawful}
+use Rattle.acts.specs.World.{World, Width, narrow, wide, limit, Session, Act, feed, close, widen, change, Effect, done, heldBy, lastRows, Takes, Lawful}
 use Rattle.acts.specs.Calls.{Call, Meets, isAccepted, blockOf, statesFed, verdictsGiven, Rules, opened, firstTickOf, inForce, sourceOf, ruled, rulesBy, ends, Calls, begin, accepted, refused, ClaimUnder}
 use Rattle.acts.specs.Demand.{opening, sessionBy, rulesOf, Beginning, Demand}
 use Rattle.acts.proofs.Stream.{none-yet, fed-session, fed-claim, at-given, changed-session, changed-claim, closed-claim}
@@ -20,10 +20,10 @@ use Rattle.acts.proofs.Effects.{call-accepted, call-last, call-none, ca
 module _ (w : World) (start : List ℕ) where
   -- ---- what is true of a state that a list has come to
   pub record At (p : Rules w) (states : List ℕ) (given : List Bool) (s : Session (w .Rule)) (h : List ℕ) (ended : Bool) : Type 0 where
-    pub session : s ≡ sessionBy w ended (s .phase) p (length states)
+    pub session : s ≡ sessionBy w ended (s .width) p (length states)
     pub from : w .From (inForce w p) (sourceOf w p)
     -- a narrow session knows no change
-    pub young : s .phase ≡ narrow → s .firstTick ≡ 0
+    pub young : s .width ≡ narrow → s .firstTick ≡ 0
     pub claim : ClaimUnder w p start ended h states given
 
   -- one act more
@@ -32,50 +32,50 @@ module _ (w : World) (start : List ℕ) where
       let e = done w a s h in At (ruled w a (e .session .firstTick) p) (states ++ blockOf w a) (given ++ e .verdicts) (e .session) (e .history) (ends w a)
 
   next : (a : Act (w .Rule) (w .Source)) (p : Rules w) (states : List ℕ) (given : List Bool) (s : Session (w .Rule)) (h : List ℕ)
-      → At p states given s h false → Takes w a (s .phase) → Lawful w a → Next a p states given s h
+      → At p states given s h false → Takes w a (s .width) → Lawful w a → Next a p states given s h
   next a p states given s h k t o = subst (λ (z : Session (w .Rule)). Next a p states given z h) (sym (k .session)) (go a t o)
     where
       f-of : firstTickOf w p ≡ s .firstTick
       f-of = ap (λ (z : Session (w .Rule)). z .firstTick) (sym (k .session))
 
-      go : (a : Act (w .Rule) (w .Source)) → Takes w a (s .phase) → Lawful w a → Next a p states given (sessionBy w false (s .phase) p (length states)) h
+      go : (a : Act (w .Rule) (w .Source)) → Takes w a (s .width) → Lawful w a → Next a p states given (sessionBy w false (s .width) p (length states)) h
       go (feed block) t o = record {
-        session = fed-session w p start h states given (k .claim) (k .from) (s .phase) block;
+        session = fed-session w p start h states given (k .claim) (k .from) (s .width) block;
         from = k .from;
         young = λ q. f-of ∙ k .young q;
-        claim = fed-claim w p start h states given (k .claim) (k .from) (s .phase) block;
+        claim = fed-claim w p start h states given (k .claim) (k .from) (s .width) block;
       }
-      go close t o = record { session = refl; from = k .from; young = λ q. refl; claim = rw append-nil (closed-claim w p start h states given (k .claim) (k .from) (s .phase)) }
+      go close t o = record { session = refl; from = k .from; young = λ q. refl; claim = rw append-nil (closed-claim w p start h states given (k .claim) (k .from) (s .width)) }
       go widen t o = record {
-        session = rw append-nil (ap (λ (n : ℕ). record { rule = inForce w p; seen = length states - firstTickOf w p; firstTick = n; phase = wide }) (sym (f-of ∙ k .young t)));
+        session = rw append-nil (ap (λ (n : ℕ). record { rule = inForce w p; seen = length states - firstTickOf w p; firstTick = n; width = wide }) (sym (f-of ∙ k .young t)));
         from = k .from;
         young = λ q. refl;
         claim = rw (append-nil states, append-nil given) (k .claim);
       }
       go (change r b) t o = record {
-        session = rw append-nil (changed-session w p start h states given (k .claim) (k .from) (s .phase) r b o);
+        session = rw append-nil (changed-session w p start h states given (k .claim) (k .from) (s .width) r b o);
         from = o;
         young = λ q. absurd (let z = ap limit (sym q ∙ t) in omega arith);
-        claim = rw append-nil (changed-claim w p start h states given (k .claim) (k .from) (s .phase) r b o);
+        claim = rw append-nil (changed-claim w p start h states given (k .claim) (k .from) (s .width) r b o);
       }
 
 -- ---- one call more
 module _ (w : World) where
-  pub states-snoc : (cs : List (Call w)) (c : Call w) → statesFed w (cs ++ (c ∷ [])) ≡ statesFed w cs ++ pick (isAccepted w c) (blockOf w (c .act)) []
+  states-snoc : (cs : List (Call w)) (c : Call w) → statesFed w (cs ++ (c ∷ [])) ≡ statesFed w cs ++ pick (isAccepted w c) (blockOf w (c .act)) []
   states-snoc [] c = append-nil (pick (isAccepted w c) (blockOf w (c .act)) [])
   states-snoc (d ∷ cs) c = rw (states-snoc cs c) (sym (append-assoc (pick (isAccepted w d) (blockOf w (d .act)) []) (statesFed w cs) _))
 
-  pub verdicts-snoc : (cs : List (Call w)) (c : Call w) → verdictsGiven w (cs ++ (c ∷ [])) ≡ verdictsGiven w cs ++ c .effect .verdicts
+  verdicts-snoc : (cs : List (Call w)) (c : Call w) → verdictsGiven w (cs ++ (c ∷ [])) ≡ verdictsGiven w cs ++ c .effect .verdicts
   verdicts-snoc [] c = append-nil (c .effect .verdicts)
   verdicts-snoc (d ∷ cs) c = rw (verdicts-snoc cs c) (sym (append-assoc (d .effect .verdicts) (verdictsGiven w cs) _))
 
-  pub rules-snoc : (p : Rules w) (cs : List (Call w)) (c : Call w)
+  rules-snoc : (p : Rules w) (cs : List (Call w)) (c : Call w)
       → rulesBy w p (cs ++ (c ∷ [])) ≡ pick (isAccepted w c) (ruled w (c .act) (c .effect .session .firstTick) (rulesBy w p cs)) (rulesBy w p cs)
   rules-snoc p [] c = refl
   rules-snoc p (d ∷ cs) c = rules-snoc _ cs c
 
 -- ---- the claim
-module _ (w : World) (width : Phase) (r : w .Rule) (b : w .Source) (o : w .From r b) (start : List ℕ) where
+module _ (w : World) (width : Width) (r : w .Rule) (b : w .Source) (o : w .From r b) (start : List ℕ) where
   abbrev pub Come : List (Call w) → Session (w .Rule) → List ℕ → Bool → Type 0
   Come cs s h ended = At w start (rulesOf w r b cs) (statesFed w cs) (verdictsGiven w cs) s h ended
 
@@ -104,7 +104,7 @@ module _ (w : World) (width : Phase) (r : w .Rule) (b : w .Source) (o : w .From 
       let k = come l in
       ap (λ (q : Effect w). q .session .firstTick) (call-accepted w c m z ∙ ap (λ (a : Act (w .Rule) (w .Source)). done w a (c .session) (c .history)) e)
       ∙ ap (λ (s : Session (w .Rule)). s .firstTick + s .seen - heldBy w s) (k .session)
-      ∙ at-given w (rulesOf w r b cs) start (c .history) (statesFed w cs) (verdictsGiven w cs) (k .claim) (k .from) (c .session .phase) r′ b′ f
+      ∙ at-given w (rulesOf w r b cs) start (c .history) (statesFed w cs) (verdictsGiven w cs) (k .claim) (k .from) (c .session .width) r′ b′ f
 
 -- ---- every beginning of such a list is such a list
 module _ (w : World) (s₀ : Session (w .Rule)) (start : List ℕ) (j : ℕ) where
@@ -123,30 +123,30 @@ module _ (w : World) (s₀ : Session (w .Rule)) (start : List ℕ) (j : ℕ) whe
   beginning (refused {cs = cs} c l m n) = first-of cs c (Beginning w s₀ start) (beginning l) (so-far (refused c l m n))
 
 -- ---- the count of a list's session stays within its limit: row 24 fits neither a close nor a change of it
-some-limit : (p : Phase) → 0 + 0 ≤ limit p
+some-limit : (p : Width) → 0 + 0 ≤ limit p
 some-limit narrow = omega arith
 some-limit wide = omega arith
 
-pub limit-wide : (p : Phase) → limit p ≤ limit wide
+pub limit-wide : (p : Width) → limit p ≤ limit wide
 limit-wide narrow = omega arith
 limit-wide wide = omega arith
 
 module _ (w : World) where
   abbrev Within : Session (w .Rule) → Type 0
-  Within s = s .firstTick + s .seen ≤ limit (s .phase)
+  Within s = s .firstTick + s .seen ≤ limit (s .width)
 
   within-done : (a : Act (w .Rule) (w .Source)) (s : Session (w .Rule)) (h : List ℕ) → Within s → first (lastRows w a s) ≡ 0 → Within (done w a s h .session)
   within-done (feed block) s h i e =
       let n : ℕ = s .firstTick + s .seen + length block in
-      let l = ltb-false (limit (s .phase)) n (no-row (lastRows w (feed block) s) refl e 0) in omega arith
-  within-done close s h i e = some-limit (s .phase)
-  within-done widen s h i e = let l = limit-wide (s .phase) in omega arith
+      let l = ltb-false (limit (s .width)) n (no-row (lastRows w (feed block) s) refl e 0) in omega arith
+  within-done close s h i e = some-limit (s .width)
+  within-done widen s h i e = let l = limit-wide (s .width) in omega arith
   within-done (change r b) s h i e = let l = length-take (heldBy w s) h in omega arith
 
   within-call : (c : Call w) → Meets w c → c .effect .number ≡ 0 → Within (c .session) → Within (c .effect .session)
   within-call c m z i = subst (λ (e : Effect w). Within (e .session)) (sym (call-accepted w c m z)) (within-done (c .act) (c .session) (c .history) i (call-last w c m z))
 
-  pub within : (width : Phase) (r : w .Rule) (start : List ℕ) {cs : List (Call w)} {s : Session (w .Rule)} {h : List ℕ} {ended : Bool}
+  pub within : (width : Width) (r : w .Rule) (start : List ℕ) {cs : List (Call w)} {s : Session (w .Rule)} {h : List ℕ} {ended : Bool}
       → Calls w (opening w width r) start cs s h ended → Within s
   within width r start begin = some-limit width
   within width r start (accepted c l m f z) = within-call c m z (within width r start l)

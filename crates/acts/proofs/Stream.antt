@@ -11,7 +11,7 @@ use lib.Seq.{drop-append-le, drop-drop, take-at, drop-at}
 use Rattle.lists.specs.Sequence.{ticks, lastOf}
 use Rattle.lists.proofs.Tests.{lt-or-le}
 use Rattle.lists.proofs.Sequences.{length-ticks, ticks-add, ticks-ext}
-use Rattle.acts.specs.World.{World, Phase, Session, Effect, heldBy, keptOf, fed, closed, changed}
+use Rattle.acts.specs.World.{World, Width, Session, Effect, heldBy, keptOf, fed, closed, changed}
 use Rattle.acts.specs.Calls.{Rules, opened, then, firstTickOf, inForce, sourceOf, largest, judged, waits, kept, GoingUnder, EndedUnder}
 use Rattle.acts.specs.Demand.{sessionBy}
 
@@ -136,7 +136,7 @@ module _ (w : World) (p : Rules w) (start h states : List ℕ) (given : List Boo
   others-more L m a b = drop-more (min (length states) (largest w p)) (min L m) h start (omega arith) (g .held .others)
 
   -- ---- the acts, each on the session that the list has come to
-  module _ (width : Phase) where
+  module _ (width : Width) where
     abbrev session : Session (w .Rule)
     session = sessionBy w false width p (length states)
 
@@ -148,7 +148,7 @@ module _ (w : World) (p : Rules w) (start h states : List ℕ) (given : List Boo
       fed-length = let r = length-reached in simp length-append (omega arith)
 
       pub fed-session : after-block .session ≡ sessionBy w false width p (length (states ++ block))
-      fed-session = ap (λ (n : ℕ). record { rule = inForce w p; seen = n; firstTick = f; phase = width }) fed-length
+      fed-session = ap (λ (n : ℕ). record { rule = inForce w p; seen = n; firstTick = f; width = width }) fed-length
 
       pub fed-claim : GoingUnder w p start (after-block .history) (states ++ block) (given ++ after-block .verdicts)
       fed-claim =
@@ -185,7 +185,7 @@ module _ (w : World) (p : Rules w) (start h states : List ℕ) (given : List Boo
       changed-seen = let k = kept-length in omega arith
 
       pub changed-session : after-change .session ≡ sessionBy w false width p′ (length states)
-      changed-session = ap (λ (n : ℕ). record { rule = r; seen = n; firstTick = f′; phase = width }) changed-seen
+      changed-session = ap (λ (n : ℕ). record { rule = r; seen = n; firstTick = f′; width = width }) changed-seen
 
       -- below the new first tick the older rules judge
       below : (later : List ℕ) → given ≡ ticks (judged w p′ (states ++ later)) f′

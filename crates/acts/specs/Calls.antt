@@ -22,7 +22,7 @@ module _ (w : World) where
 
   -- the call may be made, and its effect is what the act's definition says
   pub record Meets (c : Call) : Type 0 where
-    pub takes : Takes w (c .act) (c .session .phase)
+    pub takes : Takes w (c .act) (c .session .width)
     pub is : c .effect ≡ effectOf w (c .act) (c .session) (c .history) (c .lent)
 
   abbrev pub isAccepted : Call → Bool

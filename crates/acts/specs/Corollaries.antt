@@ -1,13 +1,13 @@
--- What follows: the base's claim without changes (1), a narrow list widened (A4, 2), and another measure (A5, 3).
+-- What follows: the base's claim without changes (1), and another measure (A5, 2).
 use Prim.Native.Nat.{ℕ, _+_, _≤_, _<_}
 use mathlib.Core.Path.{_≡_}
 use mathlib.Core.Bool.{Bool, true, false, _&&_}
 use mathlib.Core.List.{List, [], _∷_, _++_}
 use lib.ListN.{length}
 use Rattle.lists.specs.Choice.{Row, numbered}
-use Rattle.acts.specs.World.{World, Phase, wide, Session, Act, feed, close, widen, change}
+use Rattle.acts.specs.World.{World, Width, Session, Act, feed, close, widen, change}
 use Rattle.acts.specs.Calls.{Call, statesFed, verdictsGiven, Calls}
-use Rattle.acts.specs.Demand.{opening, rulesOf}
+use Rattle.acts.specs.Demand.{opening}
 use Rattle.acts.specs.Claim.{Claim}
 
 module _ (w : World) where
@@ -23,31 +23,11 @@ module _ (w : World) where
   unchanged (c ∷ cs) = keepsRule (c .act) && unchanged cs
 
   abbrev pub WithoutChanges : Type 0
-  WithoutChanges = (width : Phase) (r : w .Rule) (b : w .Source) (start : List ℕ) (cs : List (Call w)) (s : Session (w .Rule)) (h : List ℕ) (ended : Bool)
+  WithoutChanges = (width : Width) (r : w .Rule) (b : w .Source) (start : List ℕ) (cs : List (Call w)) (s : Session (w .Rule)) (h : List ℕ) (ended : Bool)
       → w .From r b → Calls w (opening w width r) start cs s h ended → unchanged cs ≡ true
       → Claim (w .val b) (w .D r) start ended h (statesFed w cs) (verdictsGiven w cs)
 
-  -- ---- 2. A list begun narrow goes on as if wide from the start, earlier refusals standing (A4): there is a list begun wide, of its
-  -- accepted calls, that comes to the same session made wide and to the same history, was fed the same states and gave the same verdicts.
-  abbrev pub asWide : Session (w .Rule) → Session (w .Rule)
-  asWide s = record { rule = s .rule; seen = s .seen; firstTick = s .firstTick; phase = wide }
-
-  -- rows before 24 do not ask how wide the count is
-  abbrev pub BlindRows : Type 0
-  BlindRows = (a : Act (w .Rule) (w .Source)) (s : Session (w .Rule)) (h : List ℕ) (x : w .Lent) → w .rows a (asWide s) h x ≡ w .rows a s h x
-
-  pub record AsIfWide (r : w .Rule) (b : w .Source) (start : List ℕ) (cs : List (Call w)) (s : Session (w .Rule)) (h : List ℕ) (ended : Bool) : Type 0 where
-    pub wides : List (Call w)
-    pub calls : Calls w (opening w wide r) start wides (asWide s) h ended
-    pub states : statesFed w wides ≡ statesFed w cs
-    pub verdicts : verdictsGiven w wides ≡ verdictsGiven w cs
-    pub rules : rulesOf w r b wides ≡ rulesOf w r b cs
-
-  abbrev pub Widened : Type 0
-  Widened = BlindRows → (width : Phase) (r : w .Rule) (b : w .Source) (start : List ℕ) (cs : List (Call w)) (s : Session (w .Rule)) (h : List ℕ) (ended : Bool)
-      → w .From r b → Calls w (opening w width r) start cs s h ended → AsIfWide r b start cs s h ended
-
-  -- ---- 3. Another measure of how long a verdict waits, with the rows that read it (A5); the same rules and verdicts
+  -- ---- 2. Another measure of how long a verdict waits, with the rows that read it (A5); the same rules and verdicts
   pub record Measure : Type 0 where
     pub D′ : w .Rule → ℕ
     pub stable′ : (r : w .Rule) (xs ys : List ℕ) (t : ℕ) → t + D′ r < length xs → w .run r (xs ++ ys) t ≡ w .run r xs t
@@ -79,13 +59,13 @@ module _ (w : World) where
 module _ (w : World) (m : Measure w) where
   -- A list of old calls (feeds by the old delay, a widening) that the second close ends, which reads it too: the claim with D′ for D.
   abbrev pub SecondClose : Type 0
-  SecondClose = (width : Phase) (r : w .Rule) (b : w .Source) (start : List ℕ) (cs : List (Call (under w m))) (s : Session (w .Rule)) (h : List ℕ)
+  SecondClose = (width : Width) (r : w .Rule) (b : w .Source) (start : List ℕ) (cs : List (Call (under w m))) (s : Session (w .Rule)) (h : List ℕ)
       → w .From r b → Calls (under w m) (opening (under w m) width r) start cs s h true → unchanged (under w m) cs ≡ true
       → Claim (w .val b) (m .D′ r) start true h (statesFed (under w m) cs) (verdictsGiven (under w m) cs)
 
   -- no verdict changes: a list that the second close ended and one that a new close ended, fed the same states, gave the same verdicts
   abbrev pub NoVerdictChanges : Type 0
-  NoVerdictChanges = (width width′ : Phase) (r : w .Rule) (b : w .Source) (start start′ : List ℕ) (cs : List (Call (under w m))) (cs′ : List (Call w))
+  NoVerdictChanges = (width width′ : Width) (r : w .Rule) (b : w .Source) (start start′ : List ℕ) (cs : List (Call (under w m))) (cs′ : List (Call w))
       (s s′ : Session (w .Rule)) (h h′ : List ℕ) → w .From r b
       → Calls (under w m) (opening (under w m) width r) start cs s h true → unchanged (under w m) cs ≡ true
       → Calls w (opening w width′ r) start′ cs′ s′ h′ true → unchanged w cs′ ≡ true

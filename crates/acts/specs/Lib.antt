@@ -6,7 +6,7 @@ pub mod Claim
 pub mod Calls
 -- the demand as one statement
 pub mod Demand
--- what follows: no change, a widening, another measure
+-- what follows: no change, another measure
 pub mod Corollaries
 -- lists of other calls, each seen as a call of the world
 pub mod Viewed

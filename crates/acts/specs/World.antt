@@ -5,27 +5,27 @@ use mathlib.Core.Bool.{Bool, true}
 use mathlib.Core.List.{List, [], _∷_, _++_}
 use lib.ListN.{length, take, drop}
 use lib.Dec.{ltb, eqb}
-use Rattle.limits.specs.Limits.{maxSeen}
+use Rattle.limits.specs.Limits.{maxSeen, maxNarrowSeen}
 use Rattle.refusals.specs.Numbers.{SEEN}
 use Rattle.lists.specs.Choice.{Row, pick, _if_, first, numbered}
 use Rattle.lists.specs.Sequence.{ticks, lastOf}
 
 -- ---- sessions
 -- the width of the count (A4)
-pub data Phase : Type 0 where
-  narrow wide : Phase
+pub data Width : Type 0 where
+  narrow wide : Width
 
 -- row 24's limit
-abbrev pub limit : Phase → ℕ
-limit narrow = maxSeen
-limit wide = 18446744073709551615
+abbrev pub limit : Width → ℕ
+limit narrow = maxNarrowSeen
+limit wide = maxSeen
 
 -- a rule of a table, the count of states seen, and the first tick (A12)
 pub record Session (R : Type 0) : Type 0 where
   pub rule : R
   pub seen : ℕ
   pub firstTick : ℕ
-  pub phase : Phase
+  pub width : Width
 
 -- what a call does to a session: a feed of a block, a close, a widening (A4), a change to another rule, of which is said as what it
 -- stood in its book (A12)
@@ -75,7 +75,7 @@ module _ (w : World) where
   fed s block h = record {
     number = 0;
     verdicts = ticks (w .run (s .rule) (keptOf s h ++ block)) ((s .seen + length block - w .D (s .rule)) - (s .seen - w .D (s .rule)));
-    session = record { rule = s .rule; seen = s .seen + length block; firstTick = s .firstTick; phase = s .phase };
+    session = record { rule = s .rule; seen = s .seen + length block; firstTick = s .firstTick; width = s .width };
     history = lastOf (w .D (s .rule)) (keptOf s h ++ block) ++ drop (min (s .seen + length block) (w .D (s .rule))) h;
   }
 
@@ -84,16 +84,16 @@ module _ (w : World) where
   closed s h = record {
     number = 0;
     verdicts = ticks (w .run (s .rule) (keptOf s h)) (heldBy s);
-    session = record { rule = s .rule; seen = 0; firstTick = 0; phase = s .phase };
+    session = record { rule = s .rule; seen = 0; firstTick = 0; width = s .width };
     history = h;
   }
 
   abbrev pub widened : Session (w .Rule) → List ℕ → Effect
-  widened s h = record { number = 0; verdicts = []; session = record { rule = s .rule; seen = s .seen; firstTick = 0; phase = wide }; history = h }
+  widened s h = record { number = 0; verdicts = []; session = record { rule = s .rule; seen = s .seen; firstTick = 0; width = wide }; history = h }
 
   -- a change: what a fresh session on the new rule has after being fed the h kept states; the first tick is the old one plus seen minus h
   abbrev pub fresh : Session (w .Rule) → w .Rule → Session (w .Rule)
-  fresh s r = record { rule = r; seen = 0; firstTick = s .firstTick + s .seen - heldBy s; phase = s .phase }
+  fresh s r = record { rule = r; seen = 0; firstTick = s .firstTick + s .seen - heldBy s; width = s .width }
 
   abbrev pub changed : Session (w .Rule) → w .Rule → List ℕ → Effect
   changed s r h = fed (fresh s r) (keptOf s h) h
@@ -107,7 +107,7 @@ module _ (w : World) where
   -- ---- refused calls
   -- 24: the first tick + seen + k passes the limit, k is 0 in a change and a close
   abbrev pub passed : Session (w .Rule) → ℕ → Row
-  passed s k = SEEN if ltb (limit (s .phase)) (s .firstTick + s .seen + k)
+  passed s k = SEEN if ltb (limit (s .width)) (s .firstTick + s .seen + k)
 
   abbrev pub lastRows : Act (w .Rule) (w .Source) → Session (w .Rule) → List Row
   lastRows (feed block) s = passed s (length block) ∷ []
@@ -122,7 +122,7 @@ module _ (w : World) where
   abbrev pub handedBack : Act (w .Rule) (w .Source) → Session (w .Rule) → Session (w .Rule)
   handedBack (feed block) s = s
   handedBack close s = s
-  handedBack widen s = record { rule = w .noRule; seen = 0; firstTick = 0; phase = wide }
+  handedBack widen s = record { rule = w .noRule; seen = 0; firstTick = 0; width = wide }
   handedBack (change r b) s = s
 
   abbrev pub refused : ℕ → Act (w .Rule) (w .Source) → Session (w .Rule) → List ℕ → Effect
@@ -133,7 +133,7 @@ module _ (w : World) where
   effectOf a s h x = let n = first (rowsOf a s h x) in pick (eqb n 0) (done a s h) (refused n a s h)
 
   -- widening takes a narrow session and a change a wide one; feed and close are calls on either
-  abbrev pub Takes : Act (w .Rule) (w .Source) → Phase → Type 0
+  abbrev pub Takes : Act (w .Rule) (w .Source) → Width → Type 0
   Takes (feed block) p = Unit {0}
   Takes close p = Unit {0}
   Takes widen p = p ≡ narrow

@@ -1,5 +1,6 @@
 -- A session's bytes and back: `session-back`, that a session over a sound table is what its bytes hold, and `renewed-back`, that with
--- another count of states they hold the session with that count. Assumes nothing.
+-- another count of states they hold the session with that count; `narrow-wide`, that bytes with a count of 32 bits hold the same session
+-- either way. Assumes nothing.
 use Prim.Native.Nat.{ℕ, _+_, _*_, _/_, _%_, _≤_, _<_}
 use native.Mathlib.Nat.{add-zero, div-div-eq-div-mul}
 use native.Mathlib.Omega.{arith}
@@ -15,8 +16,10 @@ use Rattle.table.specs.Sound.{Sound}
 use Rattle.flat.specs.Flat.{tableByte, bytesHolding, tableFrom, written}
 use Rattle.flat.proofs.Laws.{read-written, written-is, length-written, same-table}
 use Rattle.session.specs.declared.Session.{Session}
-use Rattle.session.specs.Session.{withSeen}
-use Rattle.flat.specs.Sessions.{fourAt, putFour, sessionFrom, sessionWritten, renewed}
+use Rattle.session.specs.Session.{sessionWith, withSeen}
+use Rattle.narrow.specs.declared.NarrowSession.{NarrowSession}
+use Rattle.narrow.specs.Narrow.{wideOf}
+use Rattle.flat.specs.Sessions.{fourAt, putFour, eightAt, putEight, sessionFrom, sessionWritten, renewed, narrowFrom}
 
 module _ (b : List ℕ) (at x : ℕ) where
   -- the list after one, two and three bytes
@@ -83,14 +86,39 @@ module _ (b : List ℕ) (at x : ℕ) where
       take-set-le n b₃ (at + 3) (x / 16777216 % 256) (omega arith) ∙ take-set-le n b₂ (at + 2) (x / 65536 % 256) (omega arith)
       ∙ take-set-le n b₁ (at + 1) (x / 256 % 256) (omega arith) ∙ take-set-le n b at (x % 256) h
 
--- ---- the answers of `read_session`
+-- ---- eight bytes
+module _ (b : List ℕ) (at x : ℕ) where
+  abbrev half : List ℕ
+  half = putFour b at (x % 4294967296)
+
+  length-eight : length (putEight b at x) ≡ length b
+  length-eight = length-four half (at + 4) (x / 4294967296) ∙ length-four b at (x % 4294967296)
+
+  eight-same : at + 8 ≤ length b → x < 18446744073709551616 → eightAt (putEight b at x) at ≡ x
+  eight-same l k =
+      let l₁ : length half ≡ length b = length-four b at (x % 4294967296) in
+      let low : fourAt (putEight b at x) at ≡ x % 4294967296 =
+      four-before half (at + 4) (x / 4294967296) at (omega arith) ∙ four-same b at (x % 4294967296) (omega arith) (omega arith) in
+      let high : fourAt (putEight b at x) (at + 4) ≡ x / 4294967296 = four-same half (at + 4) (x / 4294967296) (omega arith) (omega arith) in
+      sum low high
+    where
+      sum : {p q : ℕ} → p ≡ x % 4294967296 → q ≡ x / 4294967296 → p + 4294967296 * q ≡ x
+      sum p q = omega arith
+
+  eight-before : (j : ℕ) → j + 4 ≤ at → fourAt (putEight b at x) j ≡ fourAt b j
+  eight-before j h = four-before half (at + 4) (x / 4294967296) j (omega arith) ∙ four-before b at (x % 4294967296) j h
+
+  pub take-eight : (n : ℕ) → n ≤ at → take n (putEight b at x) ≡ take n b
+  take-eight n h = take-four half (at + 4) (x / 4294967296) n (omega arith) ∙ take-four b at (x % 4294967296) n h
+
+-- ---- the answers of `read_narrow`
 module _ (b : List ℕ) {rule seen high : ℕ} (p : rule ≡ fourAt b 546) (q : seen ≡ fourAt b 550) (h : high ≡ fourAt b 554) where
-  pub from-many : {t : Table} → (high ≡ 0 → ⊥) → t ≡ noTable → _≡_ {A = Session} (record { table = t; rule = rule; seen = seen }) (sessionFrom b)
-  unfolding sessionFrom
+  pub from-many : {t : Table} → (high ≡ 0 → ⊥) → t ≡ noTable → _≡_ {A = NarrowSession} (record { table = t; rule = rule; seen = seen }) (narrowFrom b)
+  unfolding narrowFrom
   from-many n e = rw (e, p, q, ne-eqb (fourAt b 554) 0 (λ z. n (h ∙ z)))
 
-  pub from-few : {t : Table} → high ≡ 0 → t ≡ tableFrom b → _≡_ {A = Session} (record { table = t; rule = rule; seen = seen }) (sessionFrom b)
-  unfolding sessionFrom
+  pub from-few : {t : Table} → high ≡ 0 → t ≡ tableFrom b → _≡_ {A = NarrowSession} (record { table = t; rule = rule; seen = seen }) (narrowFrom b)
+  unfolding narrowFrom
   from-few n e = rw (e, p, q, eq-eqb (fourAt b 554) 0 (sym h ∙ n))
 
 -- ---- back from bytes
@@ -99,35 +127,58 @@ pub table-first : (s : Session) (b : List ℕ) → 546 ≤ length b → take 546
 unfolding sessionWritten
 table-first s b h =
     let w : List ℕ = written (s .table) b in
-    let p₁ : List ℕ = putFour w 546 (s .rule % 4294967296) in
-    let p₂ : List ℕ = putFour p₁ 550 (s .seen) in
-    take-four p₂ 554 0 546 (omega arith) ∙ take-four p₁ 550 (s .seen) 546 (omega arith) ∙ take-four w 546 (s .rule % 4294967296) 546 (omega arith)
+    let rule : ℕ = s .rule % 4294967296 in
+    take-eight (putFour w 546 rule) 550 (s .seen) 546 (omega arith) ∙ take-four w 546 rule 546 (omega arith)
     ∙ ap (take 546) (written-is (s .table) b h) ∙ take-at (bytesHolding (s .table)) (drop 546 b) 546 (length-ticks (tableByte (s .table)) 546)
 
-pub session-back : (s : Session) (b : List ℕ) → length b ≡ 558 → Sound (s .table) → s .rule < 4294967296 → s .seen < 4294967296
+pub session-back : (s : Session) (b : List ℕ) → length b ≡ 558 → Sound (s .table) → s .rule < 4294967296 → s .seen < 18446744073709551616
     → sessionFrom (sessionWritten s b) ≡ s
 unfolding sessionFrom sessionWritten
 session-back s b l t r n =
     let w : List ℕ = written (s .table) b in
     let rule : ℕ = s .rule % 4294967296 in
     let p₁ : List ℕ = putFour w 546 rule in
-    let p₂ : List ℕ = putFour p₁ 550 (s .seen) in
-    let p₃ : List ℕ = putFour p₂ 554 0 in
+    let p₂ : List ℕ = putEight p₁ 550 (s .seen) in
     let lw : length w ≡ 558 = length-written (s .table) b (omega arith) ∙ l in
     let l₁ : length p₁ ≡ 558 = length-four w 546 rule ∙ lw in
-    let l₂ : length p₂ ≡ 558 = length-four p₁ 550 (s .seen) ∙ l₁ in
-    let high : fourAt p₃ 554 ≡ 0 = four-same p₂ 554 0 (omega arith) (omega arith) in
-    let seen : fourAt p₃ 550 ≡ s .seen = four-before p₂ 554 0 550 (omega arith) ∙ four-same p₁ 550 (s .seen) (omega arith) n in
-    let rules : fourAt p₃ 546 ≡ s .rule =
-    four-before p₂ 554 0 546 (omega arith) ∙ four-before p₁ 550 (s .seen) 546 (omega arith) ∙ four-same w 546 rule (omega arith) (omega arith) ∙ omega arith in
-    let table : tableFrom p₃ ≡ s .table =
-    ap tableFrom (sym (take-append-drop 546 p₃) ∙ ap (λ (i : List ℕ). i ++ drop 546 p₃) (table-first s b (omega arith))) ∙ read-written (s .table) (drop 546 p₃) t in
-    rw (eq-eqb (fourAt p₃ 554) 0 high) (λ i. record { table = table i; rule = rules i; seen = seen i })
+    let seen : eightAt p₂ 550 ≡ s .seen = eight-same p₁ 550 (s .seen) (omega arith) n in
+    let rules : fourAt p₂ 546 ≡ s .rule = eight-before p₁ 550 (s .seen) 546 (omega arith) ∙ four-same w 546 rule (omega arith) (omega arith) ∙ omega arith in
+    let table : tableFrom p₂ ≡ s .table =
+    ap tableFrom (sym (take-append-drop 546 p₂) ∙ ap (λ (i : List ℕ). i ++ drop 546 p₂) (table-first s b (omega arith))) ∙ read-written (s .table) (drop 546 p₂) t in
+    λ i. record { table = table i; rule = rules i; seen = seen i }
 
-pub renewed-back : (b : List ℕ) (n : ℕ) → length b ≡ 558 → n < 4294967296 → sessionFrom (renewed n b) ≡ withSeen (sessionFrom b) n
+pub renewed-back : (b : List ℕ) (n : ℕ) → length b ≡ 558 → n < 18446744073709551616 → sessionFrom (renewed n b) ≡ withSeen (sessionFrom b) n
 unfolding sessionFrom
 renewed-back b n l h =
-    let seen : fourAt (renewed n b) 550 ≡ n = four-same b 550 n (omega arith) h in
+    let seen : eightAt (renewed n b) 550 ≡ n = eight-same b 550 n (omega arith) h in
+    let rules : fourAt (renewed n b) 546 ≡ fourAt b 546 = eight-before b 550 n 546 (omega arith) in
     let table : tableFrom (renewed n b) ≡ tableFrom b =
-    same-table (renewed n b) b (take-four b 550 n 546 (omega arith)) (omega (arith, length-four b 550 n)) (omega arith) in
+    same-table (renewed n b) b (take-eight b 550 n 546 (omega arith)) (omega (arith, length-eight b 550 n)) (omega arith) in
+    λ i. record { table = table i; rule = rules i; seen = seen i }
+
+-- ---- narrow sessions
+-- bytes with a count of 32 bits hold the same session either way
+pub narrow-wide : (b : List ℕ) → fourAt b 554 ≡ 0 → wideOf (narrowFrom b) ≡ sessionFrom b
+unfolding sessionFrom narrowFrom
+narrow-wide b e =
+    let seen : fourAt b 550 ≡ eightAt b 550 = omega (arith, e) in
+    rw (eq-eqb (fourAt b 554) 0 e) (ap (sessionWith (tableFrom b) (fourAt b 546)) seen)
+
+-- with another count of states in the lower four bytes they hold the session with that count
+pub narrow-renewed : (b : List ℕ) (n : ℕ) → length b ≡ 558 → n < 4294967296 → wideOf (narrowFrom (putFour b 550 n)) ≡ withSeen (wideOf (narrowFrom b)) n
+unfolding narrowFrom
+narrow-renewed b n l h =
+    let seen : fourAt (putFour b 550 n) 550 ≡ n = four-same b 550 n (omega arith) h in
+    let table : tableFrom (putFour b 550 n) ≡ tableFrom b =
+    same-table (putFour b 550 n) b (take-four b 550 n 546 (omega arith)) (omega (arith, length-four b 550 n)) (omega arith) in
     rw (four-behind b 550 n 554 (omega arith), four-before b 550 n 546 (omega arith), seen, table)
+
+-- the count that bytes hold has 32 bits
+pub narrow-seen : (b : List ℕ) → ((i : ℕ) → i < length b → getD b i 0 < 256) → length b ≡ 558 → narrowFrom b .seen < 4294967296
+unfolding narrowFrom
+narrow-seen b byte l =
+    let p = byte 550 (omega arith) in
+    let q = byte 551 (omega arith) in
+    let r = byte 552 (omega arith) in
+    let s = byte 553 (omega arith) in
+    omega arith

@@ -6,22 +6,22 @@ ghost use lib.ListN.{length, take, drop, set};
 ghost use Rattle.limits.specs.Limits.{maxNodes, maxRules, tableBytes, sessionBytes};
 ghost use Rattle.lists.specs.Sequence.{ticks, pairAt};
 ghost use Rattle.flat.specs.Flat.{tableByte, bytesHolding, written, nodeFrom, ruleFrom, unpadded, tableFrom};
-ghost use Rattle.flat.specs.Sessions.{fourAt, putFour, sessionFrom, sessionWritten, renewed};
+ghost use Rattle.flat.specs.Sessions.{fourAt, putFour, eightAt, putEight, sessionFrom, sessionWritten, renewed, narrowFrom};
 use limits::MAX_NODES;
 use limits::MAX_RULES;
+use limits::NARROW_BYTES;
 use limits::SESSION_BYTES;
 use limits::TABLE_BYTES;
+use narrow::NarrowSession;
 use session::Session;
 use table::Node;
 use table::Rule;
 use table::Table;
 
-// Where a session's rule number stands, and the lower and the upper half of its count of states.
+// Where a session's rule number stands, and its count of states.
 const RULE: usize = TABLE_BYTES;
 
 const SEEN: usize = RULE + 4;
-
-const UPPER: usize = SEEN + 4;
 
 fn pair_at(b: &[u8], at: usize) -> u16
     requires { ⌜ at + 2 ≤ length (now b) ⌝ }
@@ -210,8 +210,8 @@ pub fn write_table(t: Table, out: &mut [u8])
 
 // ---- sessions
 
-fn four_at(b: &[u8; SESSION_BYTES], at: usize) -> u32
-    requires { ⌜ at + 4 ≤ sessionBytes ⌝ }
+fn four_at(b: &[u8], at: usize) -> u32
+    requires { ⌜ at + 4 ≤ length (now b) ⌝ }
     ensures { λ r. ⌜ r ≡ fourAt (now (b .entry)) at ⌝ }
 {
     byte(b[at]) + 256 * byte(b[at + 1]) + 65536 * byte(b[at + 2]) + 16777216 * byte(b[at + 3])
@@ -221,6 +221,15 @@ fn byte(x: u8) -> u32
     ensures { λ r. ⌜ (r ≡ x) × (r ≤ 255) ⌝ }
 {
     x as u32
+}
+
+fn eight_at(b: &[u8], at: usize) -> u64
+    requires { ⌜ at + 8 ≤ length (now b) ⌝ }
+    ensures { λ r. ⌜ r ≡ eightAt (now (b .entry)) at ⌝ }
+{
+    let low = four_at(b, at);
+    let high = four_at(b, at + 4);
+    low as u64 + 4294967296 * (high as u64)
 }
 
 fn put_four(b: &mut [u8; SESSION_BYTES], at: usize, x: u32)
@@ -233,15 +242,20 @@ fn put_four(b: &mut [u8; SESSION_BYTES], at: usize, x: u32)
     b[at + 3] = (x / 16777216 % 256) as u8;
 }
 
-// The session that the bytes hold; over 'no table' where their count of states is above 32 bits.
+fn put_eight(b: &mut [u8; SESSION_BYTES], at: usize, x: u64)
+    requires { ⌜ at + 8 ≤ sessionBytes ⌝ }
+    ensures { λ _. ⌜ now (b .exit) ≡ putEight (now (b .entry)) at x ⌝ }
+{
+    put_four(b, at, (x % 4294967296) as u32);
+    put_four(b, at + 4, (x / 4294967296) as u32);
+}
+
+// The session that the bytes hold.
 pub fn read_session(b: &[u8; SESSION_BYTES]) -> Session
     ensures { λ r. ⌜ r ≡ sessionFrom (now (b .entry)) ⌝ }
 {
     let rule = four_at(b, RULE) as usize;
-    let seen = four_at(b, SEEN);
-    if four_at(b, UPPER) != 0 {
-        return Session::with(table::no_table(), rule, seen);
-    }
+    let seen = eight_at(b, SEEN);
     Session::with(read_table(b), rule, seen)
 }
 
@@ -251,13 +265,32 @@ pub fn write_session(s: Session, b: &mut [u8; SESSION_BYTES])
 {
     write_table(s.table, b);
     put_four(b, RULE, (s.rule % 4294967296) as u32);
-    put_four(b, SEEN, s.seen);
-    put_four(b, UPPER, 0);
+    put_eight(b, SEEN, s.seen);
 }
 
 // The bytes of a session that has seen so many states; all others stay.
-pub fn write_seen(seen: u32, b: &mut [u8; SESSION_BYTES])
+pub fn write_seen(seen: u64, b: &mut [u8; SESSION_BYTES])
     ensures { λ _. ⌜ now (b .exit) ≡ renewed seen (now (b .entry)) ⌝ }
 {
-    put_four(b, SEEN, seen);
+    put_eight(b, SEEN, seen);
+}
+
+// The narrow session that the bytes hold; over 'no table' where their count of states is above 32 bits.
+pub fn read_narrow(b: &[u8; NARROW_BYTES]) -> NarrowSession
+    ensures { λ r. ⌜ r ≡ narrowFrom (now (b .entry)) ⌝ }
+{
+    let rule = four_at(b, RULE) as usize;
+    let seen = four_at(b, SEEN);
+    if four_at(b, SEEN + 4) != 0 {
+        return NarrowSession {
+            table: table::no_table(),
+            rule,
+            seen,
+        };
+    }
+    NarrowSession {
+        table: read_table(b),
+        rule,
+        seen,
+    }
 }

@@ -1,5 +1,5 @@
 -- Calls through the C interface are calls of the third demand. Assumes nothing.
-use Prim.Native.Nat.{ℕ, _+_, _/_, _%_, _≤_, _<_}
+use Prim.Native.Nat.{ℕ, _/_, _%_, _≤_}
 use native.Mathlib.Omega.{arith}
 use mathlib.Core.Path.{_≡_, refl, sym, ap, _∙_, subst}
 use mathlib.Core.Logic.{⊎-elim, _↔_}
@@ -8,7 +8,7 @@ use mathlib.Core.List.{List, [], _∷_, _++_, map, map-append}
 use borrow.Author.Tests.{eq-eqb, ne-eqb, eqb-true, eqb-false}
 use lib.Dec.{eqb}
 use lib.ListN.{length, take}
-use Rattle.lists.specs.Choice.{someFits}
+use Rattle.lists.specs.Choice.{pick, someFits}
 use Rattle.lists.proofs.Rows.{first-within}
 use Rattle.lists.proofs.Tests.{true-or-false}
 use Rattle.table.specs.declared.Table.{Table}
@@ -17,128 +17,206 @@ use Rattle.table.proofs.Soundness.{sound-iff}
 use Rattle.simplify.specs.Promise.{Promised, Simpler}
 use Rattle.session.specs.declared.Session.{Session}
 use Rattle.session.specs.declared.Answer.{Answer}
-use Rattle.session.specs.Session.{Effect, refused as unchanged, withSeen, unfit, opening, feedRows, closeRows, feeding, closing}
+use Rattle.session.specs.Session.{Effect, noSession, withSeen, unfit, opening, feedRows, closeRows, feedingWithin, closing}
 use Rattle.session.proofs.Answers.{feed-fits}
 use Rattle.session.proofs.Effects.{opened-is, opened-rule, opened-sound, feed-number, feed-accepted, feed-refused, close-number, close-accepted, close-refused}
-use Rattle.flat.specs.Flat.{tableFrom, written}
-use Rattle.flat.specs.Sessions.{sessionFrom, sessionWritten}
+use Rattle.narrow.specs.Narrow.{wideOf, widenRows, widening}
+use Rattle.narrow.proofs.Widening.{widen-refused, widen-same, widen-fit}
+use Rattle.flat.specs.Flat.{tableFrom, bytesHolding, written}
+use Rattle.flat.specs.Sessions.{sessionFrom, sessionWritten, narrowFrom}
 use Rattle.flat.proofs.Laws.{length-written, written-all, table-back}
-use Rattle.flat.proofs.Sessions.{table-first, session-back, renewed-back}
-use Rattle.juntreak.specs.Answers.{counted, Called}
+use Rattle.flat.proofs.Sessions.{table-first, session-back, renewed-back, narrow-wide, narrow-renewed, narrow-seen}
+use Rattle.juntreak.specs.Answers.{leaves, counted, Called}
+use Rattle.acts.specs.World.{Width, narrow, wide, limit}
 use Rattle.acts.specs.Claim.{Claim}
 use Rattle.mission.specs.Calls.{Meets, statesFed, verdictsGiven}
 use Rattle.mission.specs.Calls as calls
 use Rattle.mission.specs.Mission.{Source, book, text, readNumber, readTable}
 use Rattle.mission.specs.Mission as mission
 use Rattle.mission.proofs.Sources.{source-sound}
-use Rattle.mission.proofs.ThirdDemand.{third-demand}
-use Rattle.foreign.specs.Demand.{Lent, Call, feed, close, lent, Contract, answeredNumber, actOf, asCall, Calls, begin, accepted, refused, readAnswer, Start, verdictOf, startDelay, Untouched, ForeignDemand}
+use Rattle.mission.proofs.Listed.{handed-back}
+use Rattle.mission.proofs.ThirdDemand.{third-demand, session-is}
+use Rattle.foreign.specs.Demand.{heldIn, renewedIn, Lent, Call, feed, close, widen, lent, Contract, answeredNumber, actOf, widthOf, asCall, Calls, begin, accepted, refused, readAnswer, Start, verdictOf, startDelay, bufferOf, Untouched, ForeignDemand}
 
 -- ---- the bytes after a call
--- the bytes hold the session that the answer hands back
-counted-back : (r : Answer) (b : List ℕ) → length b ≡ 558
-    → (r .number ≡ 0 → (r .session ≡ withSeen (sessionFrom b) (r .session .seen)) × (r .session .seen < 4294967296))
-    → ((r .number ≡ 0 → ⊥) → r .session ≡ sessionFrom b)
-    → sessionFrom (counted r b) ≡ r .session
-counted-back r b l given back =
-    ⊎-elim
-    (λ (e : eqb (r .number) 0 ≡ true). rw e (let z = eqb-true (r .number) 0 e in renewed-back b (r .session .seen) l (given z .1) ∙ sym (given z .0)))
-    (λ (e : eqb (r .number) 0 ≡ false). rw e (sym (back (eqb-false (r .number) 0 e)))) (true-or-false (eqb (r .number) 0))
+-- with another count of states the bytes hold the session with that count
+renewed-held : (width : Width) (b : List ℕ) (n : ℕ) → length b ≡ 558 → n ≤ limit width → heldIn width (renewedIn width n b) ≡ withSeen (heldIn width b) n
+renewed-held narrow b n l h = narrow-renewed b n l (omega arith)
+renewed-held wide b n l h = renewed-back b n l (omega arith)
 
--- what a call leaves, as an effect; its number is small
-module _ {e : Effect} {b b′ h′ x′ o′ : List ℕ} {r : ℕ} (small : e .answer .number ≤ 25) (back : sessionFrom (counted (e .answer) b) ≡ e .answer .session)
-    (c : Called e b r b′ h′ x′ o′) where
-  effect-is : _≡_ {A = Effect} (record {
-    answer = record { number = r % 4294967296; count = r / 4294967296; session = sessionFrom b′ };
-    history = h′;
-    scratch = x′;
-    out = o′;
-  }) e
-  effect-is =
-      let n : r % 4294967296 ≡ e .answer .number = omega (arith, c .told) in
-      let k : r / 4294967296 ≡ e .answer .count = omega (arith, c .told) in
-      let s : sessionFrom b′ ≡ e .answer .session = ap sessionFrom (c .session) ∙ back in
-      λ i. record {
-        answer = record { number = n i; count = k i; session = s i };
-        history = c .history-is i;
-        scratch = c .scratch-is i;
-        out = c .out-is i;
+-- the bytes hold the session that the answer hands back
+module _ (width : Width) (b : List ℕ) (l : length b ≡ 558) where
+  abbrev s : Session
+  s = heldIn width b
+
+  counted-back : (r : Answer) → (r .number ≡ 0 → (r .session ≡ withSeen s (r .session .seen)) × (r .session .seen ≤ limit width))
+      → ((r .number ≡ 0 → ⊥) → r .session ≡ s)
+      → heldIn width (counted (renewedIn width) r b) ≡ r .session
+  counted-back r given back =
+      ⊎-elim
+      (λ (e : eqb (r .number) 0 ≡ true). rw e (let z = eqb-true (r .number) 0 e in renewed-held width b (r .session .seen) l (given z .1) ∙ sym (given z .0)))
+      (λ (e : eqb (r .number) 0 ≡ false). rw e (sym (back (eqb-false (r .number) 0 e)))) (true-or-false (eqb (r .number) 0))
+
+  -- what a call leaves, as an effect; its number is small
+  module _ {e : Effect} {b′ h′ x′ o′ : List ℕ} {r : ℕ} (small : e .answer .number ≤ 25) (back : heldIn width (counted (renewedIn width) (e .answer) b) ≡ e .answer .session)
+      (c : Called (renewedIn width) e b r b′ h′ x′ o′) where
+    effect-is : _≡_ {A = Effect} (record {
+      answer = record { number = r % 4294967296; count = r / 4294967296; session = heldIn width b′ };
+      history = h′;
+      scratch = x′;
+      out = o′;
+    }) e
+    effect-is =
+        let n : r % 4294967296 ≡ e .answer .number = omega (arith, c .told) in
+        let k : r / 4294967296 ≡ e .answer .count = omega (arith, c .told) in
+        let s : heldIn width b′ ≡ e .answer .session = ap (heldIn width) (c .session) ∙ back in
+        λ i. record {
+          answer = record { number = n i; count = k i; session = s i };
+          history = c .history-is i;
+          scratch = c .scratch-is i;
+          out = c .out-is i;
+        }
+
+  module _ (h x o : List ℕ) where
+    module _ (block : List ℕ) where
+      abbrev feed-effect : Effect
+      feed-effect = feedingWithin (limit width) s block h x o
+
+      feed-back : heldIn width (counted (renewedIn width) (feed-effect .answer) b) ≡ feed-effect .answer .session
+      feed-back =
+          counted-back (feed-effect .answer)
+          (λ z. let a = feed-accepted s h x o (limit width) block z in
+          let f = feed-fits (limit width) (unfit s) (s .seen) (length block) (length h) (length x) (length o) (a .1) in
+          rw (a .0) (refl, f .count))
+          (λ n. ap (λ (e : Effect). e .answer .session) (feed-refused s h x o (limit width) block n .0))
+
+      feed-small : feed-effect .answer .number ≤ 25
+      feed-small =
+          rw (feed-number s h x o (limit width) block) (first-within 25 (feedRows (limit width) (unfit s) (s .seen) (length block) (length h) (length x) (length o)) refl)
+
+    close-back : heldIn width (counted (renewedIn width) (closing s h x o .answer) b) ≡ closing s h x o .answer .session
+    close-back =
+        counted-back (closing s h x o .answer)
+        (λ z. let a = close-accepted s h x o z in rw (a .0) (refl, omega arith))
+        (λ n. ap (λ (e : Effect). e .answer .session) (close-refused s h x o n .0))
+
+    close-small : closing s h x o .answer .number ≤ 25
+    close-small = rw (close-number s h x o) (first-within 25 (closeRows (unfit s) (length h) (length x) (length o)) refl)
+
+-- ---- a widening
+module _ (old : List ℕ) (size : length old ≡ 558) (l : Lent) (k : Contract (widen old size l)) where
+  abbrev wider : Session
+  wider = heldIn narrow (l .session)
+
+  small-number : widening wider .number ≤ 25
+  unfolding widening
+  small-number = first-within 25 (widenRows (unfit wider)) refl
+
+  -- an accepted widening writes its session, and the bytes hold it
+  answer-zero : answeredNumber (widen old size l) ≡ 0 → l .answer ≡ 0
+  answer-zero z = omega (arith, z, k .told, small-number)
+
+  pub widened-bytes : answeredNumber (widen old size l) ≡ 0 → l .session′ ≡ sessionWritten wider old
+  widened-bytes z =
+      let n : widening wider .number ≡ 0 = sym (k .told) ∙ answer-zero z in
+      k .session ∙ rw (eq-eqb (widening wider .number) 0 n, widen-same wider n)
+
+  widened-back : answeredNumber (widen old size l) ≡ 0 → sessionFrom (l .session′) ≡ wider
+  widened-back z =
+      let f = widen-fit wider (sym (k .told) ∙ answer-zero z) in
+      ap sessionFrom (widened-bytes z)
+      ∙ session-back wider old size (f .0) (omega (arith, f .1, f .0 .few-rules)) (omega (arith, narrow-seen (l .session) (l .bytes .byte) (l .size)))
+
+  session-after : pick (eqb (l .answer) 0) (sessionFrom (l .session′)) noSession ≡ widening wider .session
+  session-after =
+      ⊎-elim
+      (λ (e : eqb (l .answer) 0 ≡ true). let z = eqb-true (l .answer) 0 e in rw e (widened-back (omega (arith, z)) ∙ sym (widen-same wider (sym (k .told) ∙ z))))
+      (λ (e : eqb (l .answer) 0 ≡ false). rw e (sym (widen-refused wider (λ z. eqb-false (l .answer) 0 e (k .told ∙ z)) .1)))
+      (true-or-false (eqb (l .answer) 0))
+
+  meets-widen : Meets (asCall (widen old size l))
+  meets-widen =
+      let n : l .answer % 4294967296 ≡ widening wider .number = omega (arith, k .told, small-number) in
+      let c : l .answer / 4294967296 ≡ 0 = omega (arith, k .told, small-number) in
+      record {
+        takes = refl;
+        is = λ i. record {
+          answer = record { number = n i; count = c i; session = session-after i };
+          history = k .history i;
+          scratch = k .scratch i;
+          out = k .out i;
+        };
       }
 
-module _ (b h x o : List ℕ) (l : length b ≡ 558) where
-  abbrev s : Session
-  s = sessionFrom b
-
-  module _ (block : List ℕ) where
-    feed-back : sessionFrom (counted (feeding s block h x o .answer) b) ≡ feeding s block h x o .answer .session
-    feed-back =
-        counted-back (feeding s block h x o .answer) b l
-        (λ z. let a = feed-accepted s h x o block z in
-        let f = feed-fits (unfit s) (s .seen) (length block) (length h) (length x) (length o) (a .1) in
-        rw (a .0) (refl, omega (arith, f .count)))
-        (λ n. ap (λ (e : Effect). e .answer .session) (feed-refused s h x o block n .0))
-
-    feed-small : feeding s block h x o .answer .number ≤ 25
-    feed-small =
-        rw (feed-number s h x o block) (first-within 25 (feedRows (unfit s) (s .seen) (length block) (length h) (length x) (length o)) refl)
-
-  close-back : sessionFrom (counted (closing s h x o .answer) b) ≡ closing s h x o .answer .session
-  close-back =
-      counted-back (closing s h x o .answer) b l
-      (λ z. let a = close-accepted s h x o z in rw (a .0) (refl, omega arith))
-      (λ n. ap (λ (e : Effect). e .answer .session) (close-refused s h x o n .0))
-
-  close-small : closing s h x o .answer .number ≤ 25
-  close-small = rw (close-number s h x o) (first-within 25 (closeRows (unfit s) (length h) (length x) (length o)) refl)
-
+-- ---- every call
 meets : (c : Call) → Contract c → Meets (asCall c)
-meets (feed block l) k =
-    effect-is (feed-small (l .session) (l .history) (l .scratch) (l .out) (l .size) block) (feed-back (l .session) (l .history) (l .scratch) (l .out) (l .size) block) k
-meets (close l) k =
-    effect-is (close-small (l .session) (l .history) (l .scratch) (l .out) (l .size)) (close-back (l .session) (l .history) (l .scratch) (l .out) (l .size)) k
+meets (feed width block l) k = record {
+  takes = tt;
+  is = effect-is width (l .session) (l .size) (feed-small width (l .session) (l .size) (l .history) (l .scratch) (l .out) block) (feed-back width (l .session) (l .size) (l .history) (l .scratch) (l .out) block) k;
+}
+meets (close width l) k = record {
+  takes = tt;
+  is = effect-is width (l .session) (l .size) (close-small width (l .session) (l .size) (l .history) (l .scratch) (l .out)) (close-back width (l .session) (l .size) (l .history) (l .scratch) (l .out)) k;
+}
+meets (widen old size l) k = meets-widen old size l k
 
 -- ---- refusals
 refusals : (c : Call) → Contract c
-    → (¬ (answeredNumber c ≡ 0)) ↔ (someFits (calls.rowsOf (actOf c) (sessionFrom (lent c .session)) (lent c .history) (lent c .scratch) (lent c .out)) ≡ true)
+    → (¬ (answeredNumber c ≡ 0)) ↔ (someFits (calls.rowsOf (actOf c) (asCall c .session) (lent c .history) (lent c .scratch) (lent c .out)) ≡ true)
 refusals c k = third-demand .calls-refused (asCall c) (meets c k)
 
--- a refused effect hands back its buffers, and the bytes stay
-untouched-by : {e : Effect} {n : ℕ} {s : Session} (l : Lent) → e ≡ unchanged n s (l .history) (l .scratch) (l .out) → (n ≡ 0 → ⊥)
-    → Called e (l .session) (l .answer) (l .session′) (l .history′) (l .scratch′) (l .out′) → Untouched l
-untouched-by {e} {n} l p z c = record {
-  session = c .session ∙ rw (ne-eqb (e .answer .number) 0 (λ q. z (sym (ap (λ (x : Effect). x .answer .number) p) ∙ q)));
-  history = c .history-is ∙ ap (λ (x : Effect). x .history) p;
-  scratch = c .scratch-is ∙ ap (λ (x : Effect). x .scratch) p;
-  out = c .out-is ∙ ap (λ (x : Effect). x .out) p;
-}
+-- a refused call hands back its buffers, and the bytes stay
+bytes-stay : (number : ℕ) (new old : List ℕ) → (number ≡ 0 → ⊥) → leaves number new old ≡ old
+bytes-stay number new old n = rw (ne-eqb number 0 n)
 
-untouched : (c : Call) → Contract c → (answeredNumber c ≡ 0 → ⊥) → Untouched (lent c)
-untouched (feed block l) k n =
-    let r = feed-refused (sessionFrom (l .session)) (l .history) (l .scratch) (l .out) block (λ z. n (ap (λ (x : Effect). x .answer .number) (meets (feed block l) k) ∙ z)) in
-    untouched-by l (r .0) (r .1) k
-untouched (close l) k n =
-    let r = close-refused (sessionFrom (l .session)) (l .history) (l .scratch) (l .out) (λ z. n (ap (λ (x : Effect). x .answer .number) (meets (close l) k) ∙ z)) in
-    untouched-by l (r .0) (r .1) k
+untouched-bytes : (c : Call) → Contract c → (answeredNumber c ≡ 0 → ⊥) → lent c .session′ ≡ bufferOf c
+untouched-bytes (feed width block l) k n = k .session ∙ bytes-stay _ _ _ (λ z. n (ap (λ (e : Effect). e .answer .number) (meets (feed width block l) k .is) ∙ z))
+untouched-bytes (close width l) k n = k .session ∙ bytes-stay _ _ _ (λ z. n (ap (λ (e : Effect). e .answer .number) (meets (close width l) k .is) ∙ z))
+untouched-bytes (widen old size l) k n = k .session ∙ bytes-stay _ _ _ (λ z. n (ap (λ (e : Effect). e .answer .number) (meets (widen old size l) k .is) ∙ z))
+
+untouched : (c : Call) → Contract c → (answeredNumber c ≡ 0 → ⊥) → Untouched c
+untouched c k n =
+    let p = handed-back (asCall c) (meets c k) n in
+    record {
+      session = untouched-bytes c k n;
+      history = ap (λ (e : Effect). e .history) p;
+      scratch = ap (λ (e : Effect). e .scratch) p;
+      out = ap (λ (e : Effect). e .out) p;
+    }
 
 -- ---- lists of calls
-module _ (first start : List ℕ) where
-  abbrev Listed : List Call → List ℕ → List ℕ → Bool → Type 0
-  Listed cs b h ended = calls.Calls (sessionFrom first) start (map asCall cs) (sessionFrom b) h ended
+-- the session that an accepted call hands back is that of the bytes afterwards
+abbrev anyIn : Width → List ℕ → calls.AnySession
+anyIn width b = record { base = heldIn width b; width = width }
 
-  listed-accepted : (cs : List Call) (c : Call) → Listed cs (lent c .session) (lent c .history) false → Contract c → answeredNumber c ≡ 0
-      → Listed (cs ++ (c ∷ [])) (lent c .session′) (lent c .history′) (calls.ends (actOf c))
-  listed-accepted cs c a k z = rw map-append (calls.accepted (asCall c) a (meets c k) z)
+back-is : (c : Call) → Contract c → answeredNumber c ≡ 0 → calls.sessionAfter (asCall c) ≡ anyIn (calls.widthAfter (actOf c) (widthOf c)) (lent c .session′)
+back-is (feed width block l) k z = refl
+back-is (close width l) k z = refl
+back-is (widen old size l) k z =
+    rw (eq-eqb (l .answer) 0 (answer-zero old size l k z))
 
-  listed-refused : (cs : List Call) (b h : List ℕ) (ended : Bool) (c : Call) → Listed cs b h ended → Contract c → (answeredNumber c ≡ 0 → ⊥)
-      → Listed (cs ++ (c ∷ [])) b h ended
-  listed-refused cs b h ended c a k n = rw map-append (calls.refused (asCall c) a (meets c k) n)
+module _ (width : Width) (first start : List ℕ) where
+  abbrev Listed : List Call → Width → List ℕ → List ℕ → Bool → Type 0
+  Listed cs width′ b h ended = calls.Calls (anyIn width first) start (map asCall cs) (anyIn width′ b) h ended
 
-  listed : {cs : List Call} {b h : List ℕ} {ended : Bool} → Calls first start cs b h ended → Listed cs b h ended
+  listed-accepted : (cs : List Call) (c : Call) → Listed cs (widthOf c) (lent c .session) (lent c .history) false → Contract c → answeredNumber c ≡ 0
+      → Listed (cs ++ (c ∷ [])) (calls.widthAfter (actOf c) (widthOf c)) (lent c .session′) (lent c .history′) (calls.ends (actOf c))
+  listed-accepted cs c a k z = rw (map-append, ← back-is c k z) (calls.accepted (asCall c) a (meets c k) z)
+
+  listed-refused : (cs : List Call) (width′ : Width) (b h : List ℕ) (ended : Bool) (c : Call) → Listed cs width′ b h ended → Contract c → (answeredNumber c ≡ 0 → ⊥)
+      → Listed (cs ++ (c ∷ [])) width′ b h ended
+  listed-refused cs width′ b h ended c a k n = rw map-append (calls.refused (asCall c) a (meets c k) n)
+
+  listed : {cs : List Call} {width′ : Width} {b h : List ℕ} {ended : Bool} → Calls width first start cs width′ b h ended → Listed cs width′ b h ended
   listed begin = calls.begin
   listed (accepted {cs = cs} c a k z) = listed-accepted cs c (listed a) k z
-  listed (refused {cs = cs} {b = b} {h = h} {ended = ended} c a k n) = listed-refused cs b h ended c (listed a) k n
+  listed (refused {cs = cs} {width′ = width′} {b = b} {h = h} {ended = ended} c a k n) = listed-refused cs width′ b h ended c (listed a) k n
 
 -- ---- the start
+narrow-unseen : (b : List ℕ) → sessionFrom b .seen ≡ 0 → wideOf (narrowFrom b) ≡ sessionFrom b
+unfolding sessionFrom
+narrow-unseen b e = narrow-wide b (omega (arith, e))
+
 -- the answer 0 is the number 0
 number-zero : (s : Source) → readAnswer s ≡ 0 → readNumber s ≡ 0
 number-zero (book b) e = omega (arith, e)
@@ -193,8 +271,8 @@ module _ (m : Start) where
     history = m .history;
   }
 
-  session-is : m .session ≡ sessionWritten (record { table = u; rule = m .rule; seen = 0 }) (m .old-session)
-  session-is =
+  bytes-opened : m .session ≡ sessionWritten (record { table = u; rule = m .rule; seen = 0 }) (m .old-session)
+  bytes-opened =
       m .was-opened
       ∙ rw (held-simple, eq-eqb (opening u (m .rule) .number) 0 opens) (ap (λ (x : Session). sessionWritten x (m .old-session)) (opened-is u (m .rule) opens))
 
@@ -202,29 +280,50 @@ module _ (m : Start) where
   held-session =
       let k = opened-rule u (m .rule) opens in
       let d = opened-sound u (m .rule) opens in
-      ap sessionFrom session-is
+      ap sessionFrom bytes-opened
       ∙ session-back (record { table = u; rule = m .rule; seen = 0 }) (m .old-session) (m .session-size) d (omega (arith, d .few-rules)) (omega arith)
       ∙ sym (opened-is u (m .rule) opens)
+
+  -- a narrow one was the same bytes
+  held-either : (width : Width) → heldIn width (m .session) ≡ mission.sessionOf start-is
+  held-either narrow =
+      let e : sessionFrom (m .session) .seen ≡ 0 = ap (λ (s : Session). s .seen) (held-session ∙ opened-is u (m .rule) opens) in
+      narrow-unseen (m .session) e ∙ held-session
+  held-either wide = held-session
 
   -- the session's bytes begin with those of the simplified table
   pub session-first : take 546 (m .session) ≡ m .simple
   session-first =
-      ap (take 546) session-is ∙ table-first (record { table = u; rule = m .rule; seen = 0 }) (m .old-session) (omega (arith, m .session-size))
+      ap (take 546) bytes-opened ∙ table-first (record { table = u; rule = m .rule; seen = 0 }) (m .old-session) (omega (arith, m .session-size))
       ∙ sym (simple-is ∙ written-all u (m .table) (omega (arith, table-long)) table-long)
 
-  of-mission : {cs : List Call} {b h : List ℕ} {ended : Bool} → Calls (m .session) (m .history) cs b h ended
-      → calls.Calls (mission.sessionOf start-is) (m .history) (map asCall cs) (sessionFrom b) h ended
-  of-mission l = rw held-session at (listed (m .session) (m .history) l)
+  of-mission : {width width′ : Width} {cs : List Call} {b h : List ℕ} {ended : Bool} → Calls width (m .session) (m .history) cs width′ b h ended
+      → calls.Calls (mission.openedAs width start-is) (m .history) (map asCall cs) (anyIn width′ b) h ended
+  of-mission {width} l = rw (held-either width) at (listed width (m .session) (m .history) l)
 
-claim : (m : Start) (cs : List Call) (b h : List ℕ) (ended : Bool) → Calls (m .session) (m .history) cs b h ended
+  -- and so do those of the table that a list's session holds
+  pub table-held : {width width′ : Width} {cs : List Call} {b h : List ℕ} {ended : Bool} → Calls width (m .session) (m .history) cs width′ b h ended
+      → bytesHolding (heldIn width′ b .table) ≡ m .simple
+  table-held {width} {width′} {cs} {b} {h} {ended} l =
+      let e = session-is start-is width (map asCall cs) (anyIn width′ b) h ended (of-mission l) in
+      ap (λ (s : Session). bytesHolding (s .table)) e ∙ ap (λ (s : Session). bytesHolding (s .table)) (opened-is u (m .rule) opens)
+      ∙ sym (simple-is ∙ written-all u (m .table) (omega (arith, table-long)) table-long)
+
+claim : (m : Start) (width width′ : Width) (cs : List Call) (b h : List ℕ) (ended : Bool) → Calls width (m .session) (m .history) cs width′ b h ended
     → Claim (verdictOf m) (startDelay m) (m .history) ended h (statesFed (map asCall cs)) (verdictsGiven (map asCall cs))
-claim m cs b h ended l = rw (held-simple m) (third-demand .claim (start-is m) (map asCall cs) (sessionFrom b) h ended (of-mission m l))
+claim m width width′ cs b h ended l = rw (held-simple m) (third-demand .claim (start-is m) width (map asCall cs) (anyIn width′ b) h ended (of-mission m l))
+
+reopened : (m : Start) (width width′ : Width) (cs : List Call) (b h : List ℕ) → Calls width (m .session) (m .history) cs width′ b h true
+    → heldIn width′ b ≡ sessionFrom (m .session)
+reopened m width width′ cs b h l =
+    ap (λ (s : calls.AnySession). s .base) (third-demand .reopened (start-is m) width (map asCall cs) (anyIn width′ b) h (of-mission m l)) ∙ sym (held-session m)
 
 pub foreign-demand : ForeignDemand
 foreign-demand = record {
   claim = claim;
+  listed = λ m width width′ cs b h ended l. record { start = start-is m; source = refl; table = sym (held-simple m); rule = refl; history = refl; calls = of-mission m l };
   calls = meets;
-  reopened = λ m cs b h l. third-demand .reopened (start-is m) (map asCall cs) (sessionFrom b) h (of-mission m l) ∙ sym (held-session m);
+  reopened = reopened;
   refusals = refusals;
   untouched = untouched;
 }

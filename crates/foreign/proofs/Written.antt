@@ -8,10 +8,8 @@ use mathlib.Core.List.{List}
 use lib.Dec.{eqb}
 use lib.ListN.{length, take, drop, length-take}
 use lib.Seq.{take-all}
-use Rattle.lists.specs.Choice.{pick}
 use Rattle.lists.proofs.Rows.{first-within}
 use Rattle.lists.proofs.Tests.{true-or-false}
-use Rattle.table.specs.Nodes.{noTable}
 use Rattle.table.specs.Sound.{Sound}
 use Rattle.table.specs.declared.Table.{Table}
 use Rattle.book.specs.declared.Reading.{Reading}
@@ -22,14 +20,15 @@ use Rattle.book.specs.Writing.{writeRows, writing}
 use Rattle.book.specs.Back.{Back}
 use Rattle.book.proofs.Back.{relied}
 use Rattle.flat.specs.Flat.{tableFrom, written}
-use Rattle.flat.specs.Sessions.{fourAt, upperPlace, sessionFrom}
+use Rattle.flat.specs.Sessions.{sessionFrom}
 use Rattle.flat.proofs.Laws.{same-table, written-all, bytes-back}
-use Rattle.flat.proofs.Sessions.{take-four}
+use Rattle.flat.proofs.Sessions.{take-four, take-eight, table-first}
 use Rattle.session.specs.declared.Answer.{Answer}
 use Rattle.session.specs.Session.{Effect}
 use Rattle.juntreak.specs.Answers.{leaves, counted, Called}
-use Rattle.foreign.specs.Demand.{Call, feed, close, lent, Contract, Calls, begin, accepted, refused, Start}
-use Rattle.foreign.proofs.Demand.{session-first}
+use Rattle.acts.specs.World.{Width, narrow, wide}
+use Rattle.foreign.specs.Demand.{heldIn, renewedIn, Call, feed, close, widen, lent, Contract, answeredNumber, widthOf, Calls, begin, accepted, refused, Start}
+use Rattle.foreign.proofs.Demand.{widened-bytes, session-first, table-held}
 use Rattle.foreign.specs.Written.{writtenNumber, writtenLength, outAfter, bookAfter, WrittenBack, ForeignWritten}
 
 number-small : (t : Table) (n : ℕ) → writing t n .number ≤ 34
@@ -65,36 +64,36 @@ module _ (table out : List ℕ) where
     }
 
 -- ---- the table of a session
--- a call renews the count, which stands behind the table
-count-only : (r : Answer) (b : List ℕ) → take 546 (counted r b) ≡ take 546 b
-count-only r b =
-    ⊎-elim (λ (e : eqb (r .number) 0 ≡ true). rw e (take-four b 550 (r .session .seen) 546 (omega arith))) (λ (e : eqb (r .number) 0 ≡ false). rw e)
+-- a call renews the count, which stands behind the table; a widening writes the table again
+renewed-keeps : (width : Width) (n : ℕ) (b : List ℕ) → take 546 (renewedIn width n b) ≡ take 546 b
+renewed-keeps narrow n b = take-four b 550 n 546 (omega arith)
+renewed-keeps wide n b = take-eight b 550 n 546 (omega arith)
+
+count-only : (width : Width) (r : Answer) (b : List ℕ) → take 546 (counted (renewedIn width) r b) ≡ take 546 b
+count-only width r b =
+    ⊎-elim (λ (e : eqb (r .number) 0 ≡ true). rw e (renewed-keeps width (r .session .seen) b)) (λ (e : eqb (r .number) 0 ≡ false). rw e)
     (true-or-false (eqb (r .number) 0))
 
-called-keeps : {e : Effect} {b b′ h x o : List ℕ} {r : ℕ} → Called e b r b′ h x o → take 546 b′ ≡ take 546 b
-called-keeps {e} {b} k = ap (take 546) (k .session) ∙ count-only (e .answer) b
+called-keeps : (width : Width) {e : Effect} {b b′ h x o : List ℕ} {r : ℕ} → Called (renewedIn width) e b r b′ h x o → take 546 b′ ≡ take 546 b
+called-keeps width {e} {b} k = ap (take 546) (k .session) ∙ count-only width (e .answer) b
 
-call-keeps : (c : Call) → Contract c → take 546 (lent c .session′) ≡ take 546 (lent c .session)
-call-keeps (feed block l) k = called-keeps k
-call-keeps (close l) k = called-keeps k
+module _ (m : Start) where
+  call-keeps : {width : Width} {cs : List Call} (c : Call) → Calls width (m .session) (m .history) cs (widthOf c) (lent c .session) (lent c .history) false
+      → Contract c → answeredNumber c ≡ 0 → take 546 (lent c .session) ≡ m .simple → take 546 (lent c .session′) ≡ m .simple
+  call-keeps (feed width block l) a k z e = called-keeps width k ∙ e
+  call-keeps (close width l) a k z e = called-keeps width k ∙ e
+  call-keeps (widen old size l) a k z e =
+      ap (take 546) (widened-bytes old size l k z) ∙ table-first (heldIn narrow (l .session)) old (omega (arith, size)) ∙ table-held m a
 
-calls-keep : {first start : List ℕ} {cs : List Call} {b h : List ℕ} {ended : Bool} → Calls first start cs b h ended → take 546 b ≡ take 546 first
-calls-keep begin = refl
-calls-keep (accepted c a k z) = call-keeps c k ∙ calls-keep a
-calls-keep (refused c a k n) = calls-keep a
+  running : {width width′ : Width} {cs : List Call} {b h : List ℕ} {ended : Bool} → Calls width (m .session) (m .history) cs width′ b h ended → take 546 b ≡ m .simple
+  running begin = session-first m
+  running (accepted c a k z) = call-keeps c a k z (running a)
+  running (refused c a k n) = running a
 
-running : (m : Start) (cs : List Call) (b h : List ℕ) (ended : Bool) → Calls (m .session) (m .history) cs b h ended → take 546 b ≡ m .simple
-running m cs b h ended l = calls-keep l ∙ session-first m
-
-fit : (b : Bool) (t : Table) → Sound (pick b t noTable) → pick b t noTable ≡ t
-fit true t z = refl
-fit false t z = absurd (omega (arith, z .some-rule))
-
-of-session : (s : List ℕ) → length s ≡ 558 → Sound (sessionFrom s .table) → tableFrom (take 546 s) ≡ sessionFrom s .table
+of-session : (s : List ℕ) → length s ≡ 558 → tableFrom (take 546 s) ≡ sessionFrom s .table
 unfolding sessionFrom
-of-session s h z =
-    let e = same-table (take 546 s) s (take-all 546 (take 546 s) (omega (arith, length-take 546 s))) (omega (arith, length-take 546 s)) (omega arith) in
-    e ∙ sym (fit (eqb (fourAt s upperPlace) 0) (tableFrom s) z)
+of-session s h =
+    same-table (take 546 s) s (take-all 546 (take 546 s) (omega (arith, length-take 546 s))) (omega (arith, length-take 546 s)) (omega arith)
 
 pub foreign-written : ForeignWritten
 foreign-written = record {
@@ -104,6 +103,6 @@ foreign-written = record {
   refused = λ table out n.
       let r = relied .refused (tableFrom table) out (λ e. n (number-is table out ∙ e)) in
       (length-is table out ∙ r .0, r .1);
-  running = running;
+  running = λ m width width′ cs b h ended l. running m l;
   of-session = of-session;
 }

@@ -1,32 +1,50 @@
--- The third demand for C programs: they hold a session as bytes, and get an answer as one number. A list of calls of juntreak_feed and
--- juntreak_close, on a session that juntreak_read or juntreak_read_text, juntreak_simplify and juntreak_open led to, is a list of calls
--- of crate mission.
+-- The third demand for C programs: they hold a session as bytes, and get an answer as one number. A list of calls of juntreak_feed,
+-- juntreak_close and juntreak_widen, on a session that juntreak_read or juntreak_read_text, juntreak_simplify and juntreak_open led to, is
+-- a list of calls of crate mission.
 use Prim.Native.Nat.{ℕ, _/_, _%_}
 use mathlib.Core.Path.{_≡_}
 use mathlib.Core.Logic.{_↔_}
 use mathlib.Core.Bool.{Bool, true, false}
 use mathlib.Core.List.{List, [], _∷_, _++_, map}
+use lib.Dec.{eqb}
 use lib.ListN.{length}
 use Rattle.limits.specs.Limits.{tableBytes, sessionBytes}
-use Rattle.lists.specs.Choice.{someFits}
+use Rattle.lists.specs.Choice.{pick, someFits}
 use Rattle.mltl.specs.Mltl.{holds, delay}
 use Rattle.table.specs.Nodes.{watchedFormula}
+use Rattle.book.specs.Entries.{Bytes}
 use Rattle.book.specs.Reading.{reading, codeOf}
 use Rattle.text.specs.Typing.{typed}
-use Rattle.session.specs.Session.{opening, feeding, closing}
+use Rattle.session.specs.declared.Session.{Session}
+use Rattle.session.specs.Session.{noSession, opening, feedingWithin, closing}
+use Rattle.narrow.specs.Narrow.{wideOf, widening}
 use Rattle.flat.specs.Flat.{tableFrom, written}
-use Rattle.flat.specs.Sessions.{sessionFrom, sessionWritten}
-use Rattle.juntreak.specs.Answers.{leaves, textAnswer, Simplifies, Called}
+use Rattle.flat.specs.Sessions.{putFour, seenPlace, sessionFrom, renewed, narrowFrom}
+use Rattle.juntreak.specs.Answers.{leaves, textAnswer, Simplifies, stored, Called}
+use Rattle.acts.specs.World.{Width, narrow, wide, limit}
 use Rattle.acts.specs.Claim.{Claim}
 use Rattle.mission.specs.Calls.{statesFed, verdictsGiven, Meets}
 use Rattle.mission.specs.Calls as mission
-use Rattle.mission.specs.Mission.{Source, book, text, readNumber, readTable, OfBytes}
+use Rattle.mission.specs.Mission.{Source, book, text, readNumber, readTable, OfBytes, openedAs}
+use Rattle.mission.specs.Mission as missions
+
+-- ---- sessions as bytes
+-- The session that bytes hold. A library whose count of states had 32 bits read them as a narrow session.
+abbrev pub heldIn : Width → List ℕ → Session
+heldIn narrow b = wideOf (narrowFrom b)
+heldIn wide b = sessionFrom b
+
+-- an accepted call renews their count: all 8 bytes of it, and the lower 4 when the count had 32 bits
+abbrev pub renewedIn : Width → ℕ → List ℕ → List ℕ
+renewedIn narrow seen b = putFour b seenPlace seen
+renewedIn wide seen b = renewed seen b
 
 -- ---- one call
 -- what a call was given: the session's 558 bytes, history, scratch and out; its answer, and what it left in these
 pub record Lent : Type 0 where
   pub session : List ℕ
   pub size : length session ≡ sessionBytes
+  pub bytes : Bytes session
   pub history : List ℕ
   pub scratch : List ℕ
   pub out : List ℕ
@@ -36,20 +54,34 @@ pub record Lent : Type 0 where
   pub scratch′ : List ℕ
   pub out′ : List ℕ
 
+-- a feed and a close of a session of a width; a widening, which reads the bytes of a narrow session and writes the wide one into a buffer
+-- that held `old`: it is lent no history, scratch or out
 pub data Call : Type 0 where
-  feed : List ℕ → Lent → Call
-  close : Lent → Call
+  feed : Width → List ℕ → Lent → Call
+  close : Width → Lent → Call
+  widen : (old : List ℕ) → length old ≡ sessionBytes → Lent → Call
 
 abbrev pub lent : Call → Lent
-lent (feed block l) = l
-lent (close l) = l
+lent (feed width block l) = l
+lent (close width l) = l
+lent (widen old size l) = l
 
--- what the contract of juntreak_feed, and that of juntreak_close, says
+-- what the contract of juntreak_widen says of the session s; history, scratch and out, which it is not lent, stay
+pub record Widens (s : Session) (old : List ℕ) (l : Lent) : Type 0 where
+  pub told : l .answer ≡ widening s .number
+  pub session : l .session′ ≡ stored (widening s) old
+  pub history : l .history′ ≡ l .history
+  pub scratch : l .scratch′ ≡ l .scratch
+  pub out : l .out′ ≡ l .out
+
+-- what the contracts of juntreak_feed, juntreak_close and juntreak_widen say; of narrow sessions, what the first two said when the count had
+-- 32 bits
 abbrev pub Contract : Call → Type 0
-Contract (feed block l) =
-    Called (feeding (sessionFrom (l .session)) block (l .history) (l .scratch) (l .out)) (l .session) (l .answer) (l .session′) (l .history′) (l .scratch′) (l .out′)
-Contract (close l) =
-    Called (closing (sessionFrom (l .session)) (l .history) (l .scratch) (l .out)) (l .session) (l .answer) (l .session′) (l .history′) (l .scratch′) (l .out′)
+Contract (feed width block l) =
+    Called (renewedIn width) (feedingWithin (limit width) (heldIn width (l .session)) block (l .history) (l .scratch) (l .out)) (l .session) (l .answer) (l .session′) (l .history′) (l .scratch′) (l .out′)
+Contract (close width l) =
+    Called (renewedIn width) (closing (heldIn width (l .session)) (l .history) (l .scratch) (l .out)) (l .session) (l .answer) (l .session′) (l .history′) (l .scratch′) (l .out′)
+Contract (widen old size l) = Widens (heldIn narrow (l .session)) old l
 
 -- the number and the count that an answer holds
 abbrev pub answeredNumber : Call → ℕ
@@ -58,20 +90,31 @@ answeredNumber c = lent c .answer % 4294967296
 abbrev pub answeredCount : Call → ℕ
 answeredCount c = lent c .answer / 4294967296
 
--- the call as one of crate mission: the sessions are those that the bytes hold, before and after
+-- the call as one of crate mission: the sessions are those that the bytes hold, before and after; a refused widening gives none
 abbrev pub actOf : Call → mission.Act
-actOf (feed block l) = mission.feed block
-actOf (close l) = mission.close
+actOf (feed width block l) = mission.feed block
+actOf (close width l) = mission.close
+actOf (widen old size l) = mission.widen
+
+abbrev pub widthOf : Call → Width
+widthOf (feed width block l) = width
+widthOf (close width l) = width
+widthOf (widen old size l) = narrow
+
+abbrev pub heldAfter : Call → Session
+heldAfter (feed width block l) = heldIn width (l .session′)
+heldAfter (close width l) = heldIn width (l .session′)
+heldAfter (widen old size l) = pick (eqb (l .answer) 0) (sessionFrom (l .session′)) noSession
 
 abbrev pub asCall : Call → mission.Call
 asCall c = record {
   act = actOf c;
-  session = sessionFrom (lent c .session);
+  session = record { base = heldIn (widthOf c) (lent c .session); width = widthOf c };
   history = lent c .history;
   scratch = lent c .scratch;
   out = lent c .out;
   effect = record {
-    answer = record { number = answeredNumber c; count = answeredCount c; session = sessionFrom (lent c .session′) };
+    answer = record { number = answeredNumber c; count = answeredCount c; session = heldAfter c };
     history = lent c .history′;
     scratch = lent c .scratch′;
     out = lent c .out′;
@@ -79,14 +122,14 @@ asCall c = record {
 }
 
 -- ---- lists of calls
--- The calls, the bytes and the history that they have come to, and whether a close was accepted. An accepted call is given the list's own
--- bytes and history, as the last accepted call left them; a refused one may be given any.
-pub data Calls (first start : List ℕ) : List Call → List ℕ → List ℕ → Bool → Type 0 where
-  begin : Calls first start [] first start false
-  accepted : {cs : List Call} (c : Call) → Calls first start cs (lent c .session) (lent c .history) false → Contract c → answeredNumber c ≡ 0
-      → Calls first start (cs ++ (c ∷ [])) (lent c .session′) (lent c .history′) (mission.ends (actOf c))
-  refused : {cs : List Call} {b h : List ℕ} {ended : Bool} (c : Call) → Calls first start cs b h ended → Contract c → (answeredNumber c ≡ 0 → ⊥)
-      → Calls first start (cs ++ (c ∷ [])) b h ended
+-- The calls, the width, the bytes and the history that they have come to, and whether a close was accepted. An accepted call is given the
+-- list's own bytes and history, as the last accepted call left them; a refused one may be given any.
+pub data Calls (width : Width) (first start : List ℕ) : List Call → Width → List ℕ → List ℕ → Bool → Type 0 where
+  begin : Calls width first start [] width first start false
+  accepted : {cs : List Call} (c : Call) → Calls width first start cs (widthOf c) (lent c .session) (lent c .history) false → Contract c → answeredNumber c ≡ 0
+      → Calls width first start (cs ++ (c ∷ [])) (mission.widthAfter (actOf c) (widthOf c)) (lent c .session′) (lent c .history′) (mission.ends (actOf c))
+  refused : {cs : List Call} {width′ : Width} {b h : List ℕ} {ended : Bool} (c : Call) → Calls width first start cs width′ b h ended → Contract c → (answeredNumber c ≡ 0 → ⊥)
+      → Calls width first start (cs ++ (c ∷ [])) width′ b h ended
 
 -- ---- the start
 -- what juntreak_read answers for a book, and juntreak_read_text for a text
@@ -107,13 +150,13 @@ pub record Start : Type 0 where
   -- juntreak_simplify
   pub simple : List ℕ
   pub simplified : Simplifies table 0 simple
-  -- juntreak_open
+  -- juntreak_open; with no state seen, a narrow session has the same bytes
   pub rule : ℕ
   pub opened : 0 ≡ opening (tableFrom simple) rule .number
   pub old-session : List ℕ
   pub session-size : length old-session ≡ sessionBytes
   pub session : List ℕ
-  pub was-opened : session ≡ leaves (opening (tableFrom simple) rule .number) (sessionWritten (opening (tableFrom simple) rule .session) old-session) old-session
+  pub was-opened : session ≡ stored (opening (tableFrom simple) rule) old-session
   -- any history
   pub history : List ℕ
 
@@ -125,21 +168,40 @@ abbrev pub startDelay : Start → ℕ
 startDelay m = delay (watchedFormula (tableFrom (m .simple)) (m .rule))
 
 -- ---- the third demand
+-- the bytes that a call may write: the session's, in a widening those of the other buffer
+abbrev pub bufferOf : Call → List ℕ
+bufferOf (feed width block l) = l .session
+bufferOf (close width l) = l .session
+bufferOf (widen old size l) = old
+
 -- a refused call writes nothing
-pub record Untouched (l : Lent) : Type 0 where
-  pub session : l .session′ ≡ l .session
-  pub history : l .history′ ≡ l .history
-  pub scratch : l .scratch′ ≡ l .scratch
-  pub out : l .out′ ≡ l .out
+pub record Untouched (c : Call) : Type 0 where
+  pub session : lent c .session′ ≡ bufferOf c
+  pub history : lent c .history′ ≡ lent c .history
+  pub scratch : lent c .scratch′ ≡ lent c .scratch
+  pub out : lent c .out′ ≡ lent c .out
+
+-- it is a list of calls of crate mission, from a start with the same source, table, rule and history
+pub record Listed (m : Start) (width width′ : Width) (cs : List Call) (b h : List ℕ) (ended : Bool) : Type 0 where
+  pub start : missions.Start
+  pub source : start .source ≡ m .source
+  pub table : start .simplified .table ≡ tableFrom (m .simple)
+  pub rule : start .rule ≡ m .rule
+  pub history : start .history ≡ m .history
+  pub calls : mission.Calls (openedAs width start) (m .history) (map asCall cs) (record { base = heldIn width′ b; width = width′ }) h ended
 
 pub record ForeignDemand : Type 0 where
-  -- what holds of every list of calls
-  pub claim : (m : Start) (cs : List Call) (b h : List ℕ) (ended : Bool) → Calls (m .session) (m .history) cs b h ended
+  -- what holds of every list of calls, on a session that was opened wide or narrow
+  pub claim : (m : Start) (width width′ : Width) (cs : List Call) (b h : List ℕ) (ended : Bool) → Calls width (m .session) (m .history) cs width′ b h ended
       → Claim (verdictOf m) (startDelay m) (m .history) ended h (statesFed (map asCall cs)) (verdictsGiven (map asCall cs))
+  pub listed : (m : Start) (width width′ : Width) (cs : List Call) (b h : List ℕ) (ended : Bool) → Calls width (m .session) (m .history) cs width′ b h ended
+      → Listed m width width′ cs b h ended
   -- the bytes after a call hold the session that the call handed back: it is a call of crate mission
   pub calls : (c : Call) → Contract c → Meets (asCall c)
   -- after an accepted close they hold the session that open gave
-  pub reopened : (m : Start) (cs : List Call) (b h : List ℕ) → Calls (m .session) (m .history) cs b h true → sessionFrom b ≡ sessionFrom (m .session)
+  pub reopened : (m : Start) (width width′ : Width) (cs : List Call) (b h : List ℕ) → Calls width (m .session) (m .history) cs width′ b h true
+      → heldIn width′ b ≡ sessionFrom (m .session)
   -- a call is refused exactly where a row fits it, and then writes nothing
-  pub refusals : (c : Call) → Contract c → (¬ (answeredNumber c ≡ 0)) ↔ (someFits (mission.rowsOf (actOf c) (sessionFrom (lent c .session)) (lent c .history) (lent c .scratch) (lent c .out)) ≡ true)
-  pub untouched : (c : Call) → Contract c → (answeredNumber c ≡ 0 → ⊥) → Untouched (lent c)
+  pub refusals : (c : Call) → Contract c
+      → (¬ (answeredNumber c ≡ 0)) ↔ (someFits (mission.rowsOf (actOf c) (asCall c .session) (lent c .history) (lent c .scratch) (lent c .out)) ≡ true)
+  pub untouched : (c : Call) → Contract c → (answeredNumber c ≡ 0 → ⊥) → Untouched c

@@ -6,13 +6,13 @@ use mathlib.Core.Bool.{Bool}
 use mathlib.Core.List.{List}
 use lib.ListN.{length, take, drop}
 use Rattle.limits.specs.Limits.{tableBytes, sessionBytes}
-use Rattle.table.specs.Sound.{Sound}
 use Rattle.book.specs.Entries.{Bytes}
 use Rattle.book.specs.Reading.{reading, codeOf}
 use Rattle.book.specs.Writing.{writing, writtenInto}
 use Rattle.flat.specs.Flat.{tableFrom, written}
 use Rattle.flat.specs.Sessions.{sessionFrom}
 use Rattle.juntreak.specs.Answers.{leaves, writeAnswer}
+use Rattle.acts.specs.World.{Width}
 use Rattle.foreign.specs.Demand.{Call, Calls, Start}
 
 -- what a call answers on the bytes of a table and an output; the number and the length that the answer holds
@@ -44,6 +44,7 @@ pub record ForeignWritten : Type 0 where
   pub back : (table out : List ℕ) → Bytes table → length table ≡ tableBytes → writtenNumber table out ≡ 0 → WrittenBack table out
   pub refused : (table out : List ℕ) → ¬ (writtenNumber table out ≡ 0) → (writtenLength table out ≡ 0) × (outAfter table out ≡ out)
   -- at any time the first 546 bytes of a session that was opened are those of the simplified table, which it runs
-  pub running : (m : Start) (cs : List Call) (b h : List ℕ) (ended : Bool) → Calls (m .session) (m .history) cs b h ended → take tableBytes b ≡ m .simple
-  -- and of one that nobody opened, but is fit for its calls, they hold the table that these run
-  pub of-session : (session : List ℕ) → length session ≡ sessionBytes → Sound (sessionFrom session .table) → tableFrom (take tableBytes session) ≡ sessionFrom session .table
+  pub running : (m : Start) (width width′ : Width) (cs : List Call) (b h : List ℕ) (ended : Bool) → Calls width (m .session) (m .history) cs width′ b h ended
+      → take tableBytes b ≡ m .simple
+  -- and of one that nobody opened they hold the table that its calls run
+  pub of-session : (session : List ℕ) → length session ≡ sessionBytes → tableFrom (take tableBytes session) ≡ sessionFrom session .table

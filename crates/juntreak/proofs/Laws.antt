@@ -8,9 +8,11 @@ use mathlib.Core.List.{List}
 use borrow.Author.Tests.{eq-eqb, ne-eqb, eqb-true}
 use lib.Dec.{eqb}
 use lib.ListN.{length}
+use Rattle.limits.specs.Limits.{maxSeen}
 use Rattle.lists.proofs.Tests.{true-or-false}
 use Rattle.table.specs.declared.Table.{Table}
 use Rattle.flat.specs.Flat.{tableFrom, written}
+use Rattle.flat.specs.Sessions.{renewed}
 use Rattle.simplify.specs.declared.Simplified.{Simplified}
 use Rattle.simplify.specs.Promise.{Promised}
 use Rattle.verdict.specs.Verdict.{Answered}
@@ -18,7 +20,7 @@ use Rattle.early.specs.declared.Decision.{Decision}
 use Rattle.early.specs.Early.{toldBy, earlyTold, earlyScratch, Decides}
 use Rattle.session.specs.declared.Session.{Session}
 use Rattle.session.specs.declared.Answer.{Answer}
-use Rattle.session.specs.Session.{Effect, unfit, feedNumber, feeding, closeNumber, closing}
+use Rattle.session.specs.Session.{Effect, unfit, feedNumber, feedingWithin, feeding, closeNumber, closing}
 use Rattle.session.proofs.Answers.{feed-fits, close-fits, unfit-short}
 use Rattle.juntreak.specs.Answers.{leaves, earlyAnswer, sessionAnswer, Simplifies, counted, Called}
 
@@ -48,10 +50,10 @@ told-by {rule = rule} {states = states} {tick = tick} {x = x} e p q = (
 
 -- ---- calls
 pub called-is : {e : Effect} {r : Answer} {b b′ h x o : List ℕ} → _≡_ {A = Effect} (record { answer = r; history = h; scratch = x; out = o }) e
-    → b′ ≡ counted r b → Called e b (sessionAnswer r) b′ h x o
+    → b′ ≡ counted renewed r b → Called renewed e b (sessionAnswer r) b′ h x o
 called-is {b = b} p q = record {
   told = ap (λ (z : Effect). sessionAnswer (z .answer)) p;
-  session = q ∙ ap (λ (z : Effect). counted (z .answer) b) p;
+  session = q ∙ ap (λ (z : Effect). counted renewed (z .answer) b) p;
   history-is = ap (λ (z : Effect). z .history) p;
   scratch-is = ap (λ (z : Effect). z .scratch) p;
   out-is = ap (λ (z : Effect). z .out) p;
@@ -59,7 +61,7 @@ called-is {b = b} p q = record {
 
 -- the session is what its bytes hold
 pub called-by : (run : Session → Effect) {s z : Session} {r : Answer} {b b′ h x o : List ℕ} → _≡_ {A = Effect} (record { answer = r; history = h; scratch = x; out = o }) (run s)
-    → s ≡ z → b′ ≡ counted r b → Called (run z) b (sessionAnswer r) b′ h x o
+    → s ≡ z → b′ ≡ counted renewed r b → Called renewed (run z) b (sessionAnswer r) b′ h x o
 called-by run p e q = called-is (p ∙ ap run e) q
 
 -- counts are small
@@ -68,11 +70,11 @@ pub count-within : {e : Effect} {r : Answer} {h x o : List ℕ} (n : ℕ) → _�
 count-within n p l = rw (ap (λ (z : Effect). z .answer .count) p) l
 
 pub feed-count : (s : Session) (block h x o : List ℕ) → feeding s block h x o .answer .count ≤ 1024
-unfolding feeding
+unfolding feedingWithin
 feed-count s block h x o =
-    let n : ℕ = feedNumber s (length block) (length h) (length x) (length o) in
+    let n : ℕ = feedNumber maxSeen s (length block) (length h) (length x) (length o) in
     ⊎-elim
-    (λ (b : eqb n 0 ≡ true). rw b (let f = feed-fits (unfit s) (s .seen) (length block) (length h) (length x) (length o) (eqb-true n 0 b) in omega (arith, f .few)))
+    (λ (b : eqb n 0 ≡ true). rw b (let f = feed-fits maxSeen (unfit s) (s .seen) (length block) (length h) (length x) (length o) (eqb-true n 0 b) in omega (arith, f .few)))
     (λ (b : eqb n 0 ≡ false). rw b (omega arith)) (true-or-false (eqb n 0))
 
 pub close-count : (s : Session) (h x o : List ℕ) → closing s h x o .answer .count ≤ 4095

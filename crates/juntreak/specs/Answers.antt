@@ -9,12 +9,13 @@ use Rattle.table.specs.declared.RuleDelay.{RuleDelay}
 use Rattle.book.specs.declared.Writing.{Writing}
 use Rattle.text.specs.declared.Typed.{Typed}
 use Rattle.flat.specs.Flat.{tableFrom, written}
-use Rattle.flat.specs.Sessions.{renewed}
+use Rattle.flat.specs.Sessions.{sessionWritten}
 use Rattle.simplify.specs.declared.Simplified.{Simplified}
 use Rattle.simplify.specs.Promise.{Promised}
 use Rattle.mltl.specs.Known.{Value, no, undecided, yes}
 use Rattle.early.specs.Early.{Told, refused, value}
 use Rattle.session.specs.declared.Answer.{Answer}
+use Rattle.session.specs.declared.Opening.{Opening}
 use Rattle.session.specs.Session.{Effect}
 
 -- a buffer after a call with this number: what an accepted call writes there, and as it was where the call is refused
@@ -63,13 +64,17 @@ pub record Simplifies (before : List ℕ) (number : ℕ) (after : List ℕ) : Ty
   pub told : number ≡ answer .number
   pub bytes : after ≡ leaves (answer .number) (written (answer .table) before) before
 
--- ---- the effect of a call on a session, with its answer as one number, and the session's bytes after it: their count of states is renewed
-abbrev pub counted : Answer → List ℕ → List ℕ
-counted r b = leaves (r .number) (renewed (r .session .seen) b) b
+-- ---- the bytes of a session after a call that gives one
+abbrev pub stored : Opening → List ℕ → List ℕ
+stored o b = leaves (o .number) (sessionWritten (o .session) b) b
 
-pub record Called (e : Effect) (bytes : List ℕ) (r : ℕ) (bytes′ history scratch out : List ℕ) : Type 0 where
+-- ---- the effect of a call on a session, with its answer as one number, and the session's bytes after it: `renew` renews their count of states
+abbrev pub counted : (ℕ → List ℕ → List ℕ) → Answer → List ℕ → List ℕ
+counted renew r b = leaves (r .number) (renew (r .session .seen) b) b
+
+pub record Called (renew : ℕ → List ℕ → List ℕ) (e : Effect) (bytes : List ℕ) (r : ℕ) (bytes′ history scratch out : List ℕ) : Type 0 where
   pub told : r ≡ sessionAnswer (e .answer)
-  pub session : bytes′ ≡ counted (e .answer) bytes
+  pub session : bytes′ ≡ counted renew (e .answer) bytes
   pub history-is : history ≡ e .history
   pub scratch-is : scratch ≡ e .scratch
   pub out-is : out ≡ e .out

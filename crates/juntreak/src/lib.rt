@@ -10,12 +10,14 @@ ghost use Rattle.text.specs.Typing.{typed};
 ghost use Rattle.verdict.specs.Verdict.{Answered};
 ghost use Rattle.early.specs.Early.{toldBy, earlyTold, earlyScratch};
 ghost use Rattle.session.specs.Session.{opening, feeding, closing};
+ghost use Rattle.narrow.specs.Narrow.{wideOf, widening};
 ghost use Rattle.flat.specs.Flat.{tableFrom, written};
-ghost use Rattle.flat.specs.Sessions.{sessionFrom, sessionWritten};
-ghost use Rattle.juntreak.specs.Answers.{leaves, textAnswer, writeAnswer, delayAnswer, splitAnswer, earlyAnswer, Simplifies, counted, Called};
+ghost use Rattle.flat.specs.Sessions.{sessionFrom, sessionWritten, renewed, narrowFrom};
+ghost use Rattle.juntreak.specs.Answers.{leaves, textAnswer, writeAnswer, delayAnswer, splitAnswer, earlyAnswer, Simplifies, stored, counted, Called};
 use book::Reading;
 use early::Decision;
 use limits::MAX_PARTS;
+use limits::NARROW_BYTES;
 use limits::SESSION_BYTES;
 use limits::TABLE_BYTES;
 use session::Answer;
@@ -51,7 +53,7 @@ fn put_session(number: u8, s: Session, b: &mut [u8; SESSION_BYTES])
 
 // The count of states seen.
 fn put_count(r: Answer, b: &mut [u8; SESSION_BYTES])
-    ensures { λ _. ⌜ now (b .exit) ≡ counted r (now (b .entry)) ⌝ }
+    ensures { λ _. ⌜ now (b .exit) ≡ counted renewed r (now (b .entry)) ⌝ }
 {
     if r.number == 0 {
         flat::write_seen(r.session.seen, b);
@@ -198,12 +200,26 @@ pub extern "C" fn juntreak_open(
     rule: u32,
     session: &mut [u8; SESSION_BYTES],
 ) -> u32
-    ensures { λ r. ⌜ (r ≡ opening (tableFrom (now (table .entry))) rule .number) × (now (session .exit) ≡ leaves (opening (tableFrom (now (table .entry))) rule .number) (sessionWritten (opening (tableFrom (now (table .entry))) rule .session) (now (session .entry))) (now (session .entry))) ⌝ }
+    ensures { λ r. ⌜ (r ≡ opening (tableFrom (now (table .entry))) rule .number) × (now (session .exit) ≡ stored (opening (tableFrom (now (table .entry))) rule) (now (session .entry))) ⌝ }
 {
     let t = flat::read_table(table);
     let o = Session::open(t, rule as usize);
     put_session(o.number, o.session, session);
     o.number as u32
+}
+
+// A narrow session as one with a wide count.
+#[no_mangle]
+pub extern "C" fn juntreak_widen(
+    narrow: &[u8; NARROW_BYTES],
+    session: &mut [u8; SESSION_BYTES],
+) -> u32
+    ensures { λ r. ⌜ (r ≡ widening (wideOf (narrowFrom (now (narrow .entry)))) .number) × (now (session .exit) ≡ stored (widening (wideOf (narrowFrom (now (narrow .entry))))) (now (session .entry))) ⌝ }
+{
+    let n = flat::read_narrow(narrow);
+    let w = n.widen();
+    put_session(w.number, w.session, session);
+    w.number as u32
 }
 
 // The verdicts that a block of states settles.
@@ -215,7 +231,7 @@ pub extern "C" fn juntreak_feed(
     scratch: &mut [u64],
     out: &mut [u64],
 ) -> u64
-    ensures { λ r. ⌜ Called (feeding (sessionFrom (now (session .entry))) (now (block .entry)) (now (history .entry)) (now (scratch .entry)) (now (out .entry))) (now (session .entry)) r (now (session .exit)) (now (history .exit)) (now (scratch .exit)) (now (out .exit)) ⌝ }
+    ensures { λ r. ⌜ Called renewed (feeding (sessionFrom (now (session .entry))) (now (block .entry)) (now (history .entry)) (now (scratch .entry)) (now (out .entry))) (now (session .entry)) r (now (session .exit)) (now (history .exit)) (now (scratch .exit)) (now (out .exit)) ⌝ }
 {
     let s = flat::read_session(session);
     let r = s.feed(block, history, scratch, out);
@@ -231,7 +247,7 @@ pub extern "C" fn juntreak_close(
     scratch: &mut [u64],
     out: &mut [u64],
 ) -> u64
-    ensures { λ r. ⌜ Called (closing (sessionFrom (now (session .entry))) (now (history .entry)) (now (scratch .entry)) (now (out .entry))) (now (session .entry)) r (now (session .exit)) (now (history .entry)) (now (scratch .exit)) (now (out .exit)) ⌝ }
+    ensures { λ r. ⌜ Called renewed (closing (sessionFrom (now (session .entry))) (now (history .entry)) (now (scratch .entry)) (now (out .entry))) (now (session .entry)) r (now (session .exit)) (now (history .entry)) (now (scratch .exit)) (now (out .exit)) ⌝ }
 {
     let s = flat::read_session(session);
     let r = s.close(history, scratch, out);

@@ -55,7 +55,11 @@ abbrev pub maxBlock : ℕ
 maxBlock = 1024
 
 abbrev pub maxSeen : ℕ
-maxSeen = 4294967295
+maxSeen = 18446744073709551615
+
+-- the same of a narrow session, whose count has 32 bits
+abbrev pub maxNarrowSeen : ℕ
+maxNarrowSeen = 4294967295
 
 -- ---- lent buffers: the least length of each
 abbrev pub historyWords : ℕ
@@ -84,3 +88,6 @@ tableBytes = 546
 
 abbrev pub sessionBytes : ℕ
 sessionBytes = 558
+
+abbrev pub narrowBytes : ℕ
+narrowBytes = 558

@@ -42,7 +42,10 @@ pub const MAX_TRACE: usize = 5120;
 
 pub const MAX_BLOCK: usize = 1024;
 
-pub const MAX_SEEN: usize = 4294967295;
+pub const MAX_SEEN: usize = 18446744073709551615;
+
+// The same of a narrow session, whose count has 32 bits.
+pub const MAX_NARROW_SEEN: u32 = 4294967295;
 
 // ---- lent buffers: the least length of each
 
@@ -65,3 +68,5 @@ pub const CLOSE_WORDS: usize = 64;
 pub const TABLE_BYTES: usize = 546;
 
 pub const SESSION_BYTES: usize = 558;
+
+pub const NARROW_BYTES: usize = 558;

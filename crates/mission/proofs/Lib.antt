@@ -6,6 +6,8 @@ mod World
 mod Seen
 -- lists of calls: the claim, the session, beginnings
 pub mod Listed
+-- lists begun narrow: at most one widening, and as if wide from the start
+mod Widened
 -- what an accepted read yields is sound
 pub mod Sources
 -- the third demand

@@ -1,5 +1,5 @@
 -- Lists of calls: one call more, what refused calls leave, the session that a list has come to, the claim, and beginnings. Assumes nothing.
-use Prim.Native.Nat.{ℕ, _-_, _≤_, _<_}
+use Prim.Native.Nat.{ℕ, _≤_, _<_}
 use native.Mathlib.Nat.{sub-zero}
 use native.Mathlib.Omega.{arith}
 use mathlib.Core.Path.{_≡_, sym, ap, _∙_}
@@ -13,12 +13,15 @@ use Rattle.mltl.specs.Mltl.{holds, delay}
 use Rattle.session.specs.declared.Session.{Session}
 use Rattle.session.specs.Session.{Effect, refused as unchanged, withSeen}
 use Rattle.session.proofs.Effects.{feed-refused, close-refused}
+use Rattle.narrow.specs.Narrow.{widening}
+use Rattle.narrow.proofs.Widening.{widen-refused}
+use Rattle.acts.specs.World.{Width, limit}
 use Rattle.acts.specs.World as world
 use Rattle.acts.specs.Claim.{Claim}
 use Rattle.acts.specs.Calls as acts
 use Rattle.acts.specs.Demand.{sessionBy}
 use Rattle.acts.proofs.Corollaries.{session-unchanged, without-changes}
-use Rattle.mission.specs.Calls.{Act, feed, close, effectOf, Call, Meets, numberOf, statesOf, verdictsOf, statesFed, verdictsGiven, Calls, begin, accepted, refused}
+use Rattle.mission.specs.Calls.{AnySession, Act, feed, close, widen, effectOf, handedBack, Call, Meets, numberOf, statesOf, verdictsOf, statesFed, verdictsGiven, seenBy, Calls, begin, accepted, refused}
 use Rattle.mission.specs.Mission.{Beginning}
 use Rattle.mission.proofs.World.{Watch, formula, Made, tables, seenSession, seenCall}
 use Rattle.mission.proofs.Seen.{opened, seen, same-states, same-verdicts, no-change}
@@ -32,46 +35,47 @@ pub verdicts-snoc : (cs : List Call) (c : Call) → verdictsGiven (cs ++ (c ∷ 
 verdicts-snoc [] c = append-nil (verdictsOf c)
 verdicts-snoc (d ∷ cs) c = rw (verdicts-snoc cs c) (sym (append-assoc (verdictsOf d) (verdictsGiven cs) (verdictsOf c)))
 
--- ---- a refused call hands back its session and its buffers as they were
-refused-act : (a : Act) (s : Session) (h x o : List ℕ) → (effectOf a s h x o .answer .number ≡ 0 → ⊥)
-    → effectOf a s h x o ≡ unchanged (effectOf a s h x o .answer .number) s h x o
+-- ---- a refused call hands back its session and its buffers as they were, a widening no session
+refused-act : (a : Act) (s : AnySession) (h x o : List ℕ) → (effectOf a s h x o .answer .number ≡ 0 → ⊥)
+    → effectOf a s h x o ≡ unchanged (effectOf a s h x o .answer .number) (handedBack a (s .base)) h x o
 refused-act (feed block) s h x o r =
-    let p = feed-refused s h x o block r .0 in p ∙ ap (λ (n : ℕ). unchanged n s h x o) (sym (ap (λ (q : Effect). q .answer .number) p))
+    let p = feed-refused (s .base) h x o (limit (s .width)) block r .0 in
+    p ∙ ap (λ (n : ℕ). unchanged n (s .base) h x o) (sym (ap (λ (q : Effect). q .answer .number) p))
 refused-act close s h x o r =
-    let p = close-refused s h x o r .0 in p ∙ ap (λ (n : ℕ). unchanged n s h x o) (sym (ap (λ (q : Effect). q .answer .number) p))
+    let p = close-refused (s .base) h x o r .0 in p ∙ ap (λ (n : ℕ). unchanged n (s .base) h x o) (sym (ap (λ (q : Effect). q .answer .number) p))
+refused-act widen s h x o r = ap (λ (q : Session). unchanged (widening (s .base) .number) q h x o) (widen-refused (s .base) r .1)
 
-pub handed-back : (c : Call) → Meets c → (numberOf c ≡ 0 → ⊥) → c .effect ≡ unchanged (numberOf c) (c .session) (c .history) (c .scratch) (c .out)
+pub handed-back : (c : Call) → Meets c → (numberOf c ≡ 0 → ⊥)
+    → c .effect ≡ unchanged (numberOf c) (handedBack (c .act) (c .session .base)) (c .history) (c .scratch) (c .out)
 handed-back c m r =
-    let n = ap (λ (q : Effect). q .answer .number) m in
-    m ∙ refused-act (c .act) (c .session) (c .history) (c .scratch) (c .out) (λ z. r (n ∙ z))
-    ∙ ap (λ (k : ℕ). unchanged k (c .session) (c .history) (c .scratch) (c .out)) (sym n)
+    let n = ap (λ (q : Effect). q .answer .number) (m .is) in
+    m .is ∙ refused-act (c .act) (c .session) (c .history) (c .scratch) (c .out) (λ z. r (n ∙ z))
+    ∙ ap (λ (k : ℕ). unchanged k (handedBack (c .act) (c .session .base)) (c .history) (c .scratch) (c .out)) (sym n)
 
 -- ---- what a list has come to
--- the states that its session has seen: none after a close
-abbrev pub seenBy : Bool → List Call → ℕ
-seenBy false cs = length (statesFed cs)
-seenBy true cs = 0
-
 -- r is the rule b of a table, simplified
-module _ (r b : Watch) (made : Made r b) (start : List ℕ) where
-  pub come-session : (cs : List Call) (s : Session) (h : List ℕ) (ended : Bool) → Calls (opened r start) start cs s h ended
-      → s ≡ withSeen (opened r start) (seenBy ended cs)
+module _ (r b : Watch) (made : Made r b) (width : Width) (start : List ℕ) where
+  abbrev fresh : Session
+  fresh = opened r width start .base
+
+  pub come-session : (cs : List Call) (s : AnySession) (h : List ℕ) (ended : Bool) → Calls (opened r width start) start cs s h ended
+      → s .base ≡ withSeen fresh (seenBy ended cs)
   come-session cs s h ended l =
-      let e = session-unchanged tables world.narrow r b start (map seenCall cs) (seenSession s) h ended made (seen r start l) (no-change cs) in
+      let e = session-unchanged tables width r b start (map seenCall cs) (seenSession s) h ended made (seen r width start l) (no-change cs) in
       go ended e
     where
-      back : {q : world.Session Watch} → seenSession s ≡ q → s ≡ record { table = q .rule .table; rule = q .rule .rule; seen = q .seen }
+      back : {q : world.Session Watch} → seenSession s ≡ q → s .base ≡ record { table = q .rule .table; rule = q .rule .rule; seen = q .seen }
       back e = ap (λ (q : world.Session Watch). record { table = q .rule .table; rule = q .rule .rule; seen = q .seen }) e
 
-      go : (ended : Bool) → seenSession s ≡ sessionBy tables ended world.narrow (acts.opened r b) (length (acts.statesFed tables (map seenCall cs)))
-          → s ≡ withSeen (opened r start) (seenBy ended cs)
-      go false e = back e ∙ ap (withSeen (opened r start)) (sub-zero _ ∙ ap length (same-states cs))
+      go : (ended : Bool) → seenSession s ≡ sessionBy tables ended (s .width) (acts.opened r b) (length (acts.statesFed tables (map seenCall cs)))
+          → s .base ≡ withSeen fresh (seenBy ended cs)
+      go false e = back e ∙ ap (withSeen fresh) (sub-zero _ ∙ ap length (same-states cs))
       go true e = back e
 
-  pub come-claim : (cs : List Call) (s : Session) (h : List ℕ) (ended : Bool) → Calls (opened r start) start cs s h ended
+  pub come-claim : (cs : List Call) (s : AnySession) (h : List ℕ) (ended : Bool) → Calls (opened r width start) start cs s h ended
       → Claim (holds (formula b)) (delay (formula r)) start ended h (statesFed cs) (verdictsGiven cs)
   come-claim cs s h ended l =
-      rw (same-states cs, same-verdicts cs) at (without-changes tables world.narrow r b start (map seenCall cs) (seenSession s) h ended made (seen r start l) (no-change cs))
+      rw (same-states cs, same-verdicts cs) at (without-changes tables width r b start (map seenCall cs) (seenSession s) h ended made (seen r width start l) (no-change cs))
 
 -- ---- every beginning of such a list is such a list
 -- what holds of the first j of a list, and of the list with one call more, holds of the first j of that
@@ -80,11 +84,11 @@ first-of j cs c P p q =
     ⊎-elim (λ (h : length cs < j). rw (take-all j (cs ++ (c ∷ [])) (simp length-append (omega arith))) q) (λ (h : j ≤ length cs). rw take-append-le p)
     (lt-or-le (length cs) j)
 
-module _ (first : Session) (start : List ℕ) (j : ℕ) where
-  so-far : {cs : List Call} {s : Session} {h : List ℕ} {ended : Bool} → Calls first start cs s h ended → Beginning first start cs
+module _ (first : AnySession) (start : List ℕ) (j : ℕ) where
+  so-far : {cs : List Call} {s : AnySession} {h : List ℕ} {ended : Bool} → Calls first start cs s h ended → Beginning first start cs
   so-far l = record { session = _; history = _; ended = _; calls = l }
 
-  pub beginning : {cs : List Call} {s : Session} {h : List ℕ} {ended : Bool} → Calls first start cs s h ended → Beginning first start (take j cs)
+  pub beginning : {cs : List Call} {s : AnySession} {h : List ℕ} {ended : Bool} → Calls first start cs s h ended → Beginning first start (take j cs)
   beginning begin = rw take-nil (so-far begin)
   beginning (accepted {cs = cs} c l m z) = first-of j cs c (Beginning first start) (beginning l) (so-far (accepted c l m z))
   beginning (refused {cs = cs} c l m r) = first-of j cs c (Beginning first start) (beginning l) (so-far (refused c l m r))

@@ -6,9 +6,9 @@ use Rattle.lists.specs.Sequence.{every, chain}
 use Rattle.mltl.specs.Mltl.{holds, delay, someFrom, someTick, everyTick, eventually, until, opposite, always, release}
 use Rattle.interval.specs.Parts.{largestTo, left, partsTo, parts}
 use Rattle.table.specs.Sound.{isSoundBy}
-use Rattle.session.specs.Session.{opening, feeding, closing}
+use Rattle.session.specs.Session.{opening, feedingWithin, closing}
 use Rattle.mission.specs.Rows.{markedRows, computed, stated}
 
 pub marked-rows : map computed markedRows ≡ map stated markedRows
-unfolding bit number wordAt pack packed every chain delay isSoundBy opening feeding closing holds someFrom someTick everyTick eventually until opposite always release largestTo left partsTo parts
+unfolding bit number wordAt pack packed every chain delay isSoundBy opening feedingWithin closing holds someFrom someTick everyTick eventually until opposite always release largestTo left partsTo parts
 marked-rows = refl

@@ -13,112 +13,129 @@ use Rattle.lists.specs.Choice.{pick, first}
 use Rattle.lists.specs.Sequence.{ticks}
 use Rattle.lists.specs.Bits.{bitAt}
 use Rattle.lists.proofs.Tests.{true-or-false, _also_}
-use Rattle.session.specs.declared.Session.{Session}
-use Rattle.session.specs.Session.{Effect, unfit, feeding, fed, closing, closed, feedNumber, closeNumber, keptOf, formulaOf, delayOf, feedCount, refused as unchanged}
+use Rattle.session.specs.Session.{Effect, unfit, feedingWithin, fed, closing, closed, feedNumber, closeNumber, keptOf, formulaOf, delayOf, feedCount, refused as unchanged}
 use Rattle.session.proofs.Effects.{words-verdicts, close-number}
-use Rattle.acts.specs.World.{narrow, limit, effectOf as acted, rowsOf as rowsThere, done, refused as refusedThere}
+use Rattle.narrow.specs.Narrow.{widening}
+use Rattle.acts.specs.World.{Width, wide, limit, effectOf as acted, rowsOf as rowsThere, done, refused as refusedThere}
 use Rattle.acts.specs.World as world
 use Rattle.acts.specs.Calls as acts
 use Rattle.acts.specs.Demand.{opening}
 use Rattle.acts.specs.Corollaries.{keepsRule, unchanged as unchangedRules}
 use Rattle.acts.proofs.Listed.{within}
-use Rattle.mission.specs.Calls.{Act, feed, close, effectOf, blockOf, ends, Call, Meets, numberOf, statesFed, verdictsGiven, Calls, begin, accepted, refused}
+use Rattle.mission.specs.Calls.{AnySession, Act, feed, close, widen, effectOf, blockOf, ends, Takes, widthAfter, Call, Meets, numberOf, sessionAfter, statesFed, verdictsGiven, Calls, begin, accepted, refused}
 use Rattle.mission.proofs.World.{Watch, Buffers, short, tables, seenSession, seenAct, seenEffect, seenCall}
 
 -- ---- one call
-module _ (s : Session) (h x o : List ℕ) where
+-- the verdicts that it gave
+abbrev pub given : Effect → List Bool
+given e = ticks (bitAt (e .out)) (e .answer .count)
+
+module _ (s : AnySession) (h x o : List ℕ) where
   abbrev lent : Buffers
   lent = record { scratch = x; out = o }
 
-  abbrev given : Effect → List Bool
-  given e = ticks (bitAt (e .out)) (e .answer .count)
-
   module _ (block : List ℕ) where
-    same-feed : (n : ℕ) (b : Bool) → let e = pick b (fed s block h x o) (unchanged n s h x o) in
-        seenEffect e (given e) ≡ pick b (done tables (world.feed block) (seenSession s) h) (refusedThere tables n (world.feed block) (seenSession s) h)
-    same-feed n true = ap (seenEffect (fed s block h x o)) (words-verdicts 16 (feedCount s (length block)) (formulaOf s) (keptOf s h ++ block) o)
+    same-feed : (n : ℕ) (b : Bool) → let e = pick b (fed (s .base) block h x o) (unchanged n (s .base) h x o) in
+        seenEffect e (given e) (s .width) ≡ pick b (done tables (world.feed block) (seenSession s) h) (refusedThere tables n (world.feed block) (seenSession s) h)
+    same-feed n true =
+        ap (λ (v : List Bool). seenEffect (fed (s .base) block h x o) v (s .width))
+        (words-verdicts 16 (feedCount (s .base) (length block)) (formulaOf (s .base)) (keptOf (s .base) h ++ block) o)
     same-feed n false = refl
 
-    feed-is : let e = feeding s block h x o in seenEffect e (given e) ≡ acted tables (world.feed block) (seenSession s) h lent
-    unfolding feeding acted
-    feed-is = let n = feedNumber s (length block) (length h) (length x) (length o) in rw zero-add (same-feed n (eqb n 0))
+    feed-is : let e = effectOf (feed block) s h x o in seenEffect e (given e) (s .width) ≡ acted tables (world.feed block) (seenSession s) h lent
+    unfolding feedingWithin acted
+    feed-is = let n = feedNumber (limit (s .width)) (s .base) (length block) (length h) (length x) (length o) in rw zero-add (same-feed n (eqb n 0))
 
-  same-close : (n : ℕ) (b : Bool) → let e = pick b (closed s h x o) (unchanged n s h x o) in
-      seenEffect e (given e) ≡ pick b (done tables world.close (seenSession s) h) (refusedThere tables n world.close (seenSession s) h)
-  same-close n true = ap (seenEffect (closed s h x o)) (words-verdicts 64 (min (s .seen) (delayOf s)) (formulaOf s) (keptOf s h) o)
+  same-close : (n : ℕ) (b : Bool) → let e = pick b (closed (s .base) h x o) (unchanged n (s .base) h x o) in
+      seenEffect e (given e) (s .width) ≡ pick b (done tables world.close (seenSession s) h) (refusedThere tables n world.close (seenSession s) h)
+  same-close n true =
+      ap (λ (v : List Bool). seenEffect (closed (s .base) h x o) v (s .width))
+      (words-verdicts 64 (min (s .base .seen) (delayOf (s .base))) (formulaOf (s .base)) (keptOf (s .base) h) o)
   same-close n false = refl
 
   -- a close has no row 24 here: the numbers are the same where the count is within its limit, or another row fits
   abbrev here : ℕ
-  here = closeNumber s (length h) (length x) (length o)
+  here = closeNumber (s .base) (length h) (length x) (length o)
 
   abbrev there : ℕ
   there = first (rowsThere tables world.close (seenSession s) h lent)
 
-  number-within : 0 + s .seen ≤ limit narrow → there ≡ here
-  number-within l = rw (le-ltb (limit narrow) (0 + s .seen + 0) (omega arith))
+  number-within : 0 + s .base .seen ≤ limit (s .width) → there ≡ here
+  number-within l = rw (le-ltb (limit (s .width)) (0 + s .base .seen + 0) (omega arith))
 
   number-refused : (here ≡ 0 → ⊥) → there ≡ here
-  number-refused n = go (unfit s) (short 64 h lent) (ltb (limit narrow) (0 + s .seen + 0)) n
+  number-refused n = go (unfit (s .base)) (short 64 h lent) (ltb (limit (s .width)) (0 + s .base .seen + 0)) n
     where
       go : (a b c : Bool) → (_≡_ {A = ℕ} (pick a 25 (pick b 23 0)) 0 → ⊥) → _≡_ {A = ℕ} (pick a 25 (pick b 23 (pick c 24 0))) (pick a 25 (pick b 23 0))
       go true b c n = refl
       go false true c n = refl
       go false false c n = absurd (n refl)
 
-  close-is : there ≡ here → let e = closing s h x o in seenEffect e (given e) ≡ acted tables world.close (seenSession s) h lent
+  close-is : there ≡ here → let e = effectOf close s h x o in seenEffect e (given e) (s .width) ≡ acted tables world.close (seenSession s) h lent
   unfolding closing acted
   close-is e = rw e (same-close here (eqb here 0))
 
+  widen-is : let e = effectOf widen s h x o in seenEffect e (given e) wide ≡ acted tables world.widen (seenSession s) h lent
+  unfolding widening acted
+  widen-is = ⊎-elim (λ (e : unfit (s .base) ≡ true). rw e) (λ (e : unfit (s .base) ≡ false). rw e) (true-or-false (unfit (s .base)))
+
 -- an act on any session; of an accepted close it is used that the count of states is within its limit
-meets-by : (a : Act) (s : Session) (h x o : List ℕ) (e : Effect) → e ≡ effectOf a s h x o → (e .answer .number ≡ 0 → 0 + s .seen ≤ limit narrow)
-    → seenEffect e (given s h x o e) ≡ acted tables (seenAct a) (seenSession s) h (record { scratch = x; out = o })
-meets-by (feed block) s h x o e m l = ap (λ (q : Effect). seenEffect q (given s h x o q)) m ∙ feed-is s h x o block
+meets-by : (a : Act) (s : AnySession) (h x o : List ℕ) (e : Effect) → e ≡ effectOf a s h x o → (e .answer .number ≡ 0 → 0 + s .base .seen ≤ limit (s .width))
+    → seenEffect e (given e) (widthAfter a (s .width)) ≡ acted tables (seenAct a) (seenSession s) h (record { scratch = x; out = o })
+meets-by (feed block) s h x o e m l = ap (λ (q : Effect). seenEffect q (given q) (s .width)) m ∙ feed-is s h x o block
 meets-by close s h x o e m l =
-    let n : e .answer .number ≡ here s h x o = ap (λ (q : Effect). q .answer .number) m ∙ close-number s h x o in
+    let n : e .answer .number ≡ here s h x o = ap (λ (q : Effect). q .answer .number) m ∙ close-number (s .base) h x o in
     let k : there s h x o ≡ here s h x o =
     ⊎-elim (λ (z : eqb (e .answer .number) 0 ≡ true). number-within s h x o (l (eqb-true (e .answer .number) 0 z)))
     (λ (z : eqb (e .answer .number) 0 ≡ false). number-refused s h x o (λ q. eqb-false (e .answer .number) 0 z (n ∙ q)))
     (true-or-false (eqb (e .answer .number) 0)) in
-    ap (λ (q : Effect). seenEffect q (given s h x o q)) m ∙ close-is s h x o k
+    ap (λ (q : Effect). seenEffect q (given q) (s .width)) m ∙ close-is s h x o k
+meets-by widen s h x o e m l = ap (λ (q : Effect). seenEffect q (given q) wide) m ∙ widen-is s h x o
 
-takes : (a : Act) → world.Takes tables (seenAct a) narrow
-takes (feed block) = tt
-takes close = tt
+takes : (a : Act) (width : Width) → Takes a width → world.Takes tables (seenAct a) width
+takes (feed block) width t = tt
+takes close width t = tt
+takes widen width t = t
 
-meets : (c : Call) → Meets c → (numberOf c ≡ 0 → 0 + c .session .seen ≤ limit narrow) → acts.Meets tables (seenCall c)
-meets c m l = record { takes = takes (c .act); is = meets-by (c .act) (c .session) (c .history) (c .scratch) (c .out) (c .effect) m l }
+meets : (c : Call) → Meets c → (numberOf c ≡ 0 → 0 + c .session .base .seen ≤ limit (c .session .width)) → acts.Meets tables (seenCall c)
+meets c m l = record {
+  takes = takes (c .act) (c .session .width) (m .takes);
+  is = meets-by (c .act) (c .session) (c .history) (c .scratch) (c .out) (c .effect) (m .is) l;
+}
 
 -- ---- lists of calls
 lawful : (a : Act) → world.Lawful tables (seenAct a)
 lawful (feed block) = tt
 lawful close = tt
+lawful widen = tt
 
 same-end : (a : Act) → acts.ends tables (seenAct a) ≡ ends a
 same-end (feed block) = refl
 same-end close = refl
+same-end widen = refl
 
 same-block : (a : Act) → acts.blockOf tables (seenAct a) ≡ blockOf a
 same-block (feed block) = refl
 same-block close = refl
+same-block widen = refl
 
-module _ (r : Watch) (start : List ℕ) where
-  abbrev pub opened : Session
-  opened = record { table = r .table; rule = r .rule; seen = 0 }
+module _ (r : Watch) (width : Width) (start : List ℕ) where
+  abbrev pub opened : AnySession
+  opened = record { base = record { table = r .table; rule = r .rule; seen = 0 }; width = width }
 
-  abbrev pub Seen : List Call → Session → List ℕ → Bool → Type 0
-  Seen cs s h ended = acts.Calls tables (opening tables narrow r) start (map seenCall cs) (seenSession s) h ended
+  abbrev pub Seen : List Call → AnySession → List ℕ → Bool → Type 0
+  Seen cs s h ended = acts.Calls tables (opening tables width r) start (map seenCall cs) (seenSession s) h ended
 
   seen-accepted : (cs : List Call) (c : Call) → Seen cs (c .session) (c .history) false → Meets c → numberOf c ≡ 0
-      → Seen (cs ++ (c ∷ [])) (c .effect .answer .session) (c .effect .history) (ends (c .act))
+      → Seen (cs ++ (c ∷ [])) (sessionAfter c) (c .effect .history) (ends (c .act))
   seen-accepted cs c l m z =
-      rw (map-append, ← same-end (c .act)) (acts.accepted (seenCall c) l (meets c m (λ e. within tables narrow r start l)) (lawful (c .act)) z)
+      rw (map-append, ← same-end (c .act)) (acts.accepted (seenCall c) l (meets c m (λ e. within tables width r start l)) (lawful (c .act)) z)
 
-  seen-refused : (cs : List Call) (s : Session) (h : List ℕ) (ended : Bool) (c : Call) → Seen cs s h ended → Meets c → (numberOf c ≡ 0 → ⊥)
+  seen-refused : (cs : List Call) (s : AnySession) (h : List ℕ) (ended : Bool) (c : Call) → Seen cs s h ended → Meets c → (numberOf c ≡ 0 → ⊥)
       → Seen (cs ++ (c ∷ [])) s h ended
   seen-refused cs s h ended c l m n = rw map-append (acts.refused (seenCall c) l (meets c m (λ e. absurd (n e))) n)
 
-  pub seen : {cs : List Call} {s : Session} {h : List ℕ} {ended : Bool} → Calls opened start cs s h ended → Seen cs s h ended
+  pub seen : {cs : List Call} {s : AnySession} {h : List ℕ} {ended : Bool} → Calls opened start cs s h ended → Seen cs s h ended
   seen begin = acts.begin
   seen (accepted {cs = cs} c l m z) = seen-accepted cs c (seen l) m z
   seen (refused {cs = cs} {s = s} {h = h} {ended = ended} c l m n) = seen-refused cs s h ended c (seen l) m n
@@ -135,6 +152,7 @@ same-verdicts (c ∷ cs) = rw (same-verdicts cs)
 keeps : (a : Act) → keepsRule tables (seenAct a) ≡ true
 keeps (feed block) = refl
 keeps close = refl
+keeps widen = refl
 
 pub no-change : (cs : List Call) → unchangedRules tables (map seenCall cs) ≡ true
 no-change [] = refl

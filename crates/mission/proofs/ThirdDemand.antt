@@ -1,5 +1,6 @@
 -- The third demand: every list of calls on a session over a book or a text that was read, and simplified. Assumes nothing.
-use Prim.Native.Nat.{ℕ, _<_}
+use Prim.Native.Nat.{ℕ, _≤_, _<_}
+use native.Mathlib.Nat.{zero-add}
 use native.Mathlib.Omega.{arith}
 use mathlib.Core.Path.{_≡_, refl, sym, ap, _∙_}
 use mathlib.Core.Bool.{Bool, true, false}
@@ -15,12 +16,16 @@ use Rattle.simplify.specs.declared.Simplified.{Simplified}
 use Rattle.session.specs.declared.Session.{Session}
 use Rattle.session.specs.Session.{Effect, withSeen, opening}
 use Rattle.session.proofs.Effects.{opened-is, opened-rule, feed-number, close-number}
+use Rattle.narrow.specs.Narrow.{widening}
+use Rattle.acts.specs.World.{Width, limit}
 use Rattle.acts.specs.Claim.{Claim}
-use Rattle.mission.specs.Calls.{Act, feed, close, effectOf, rowsOf, Call, Meets, numberOf, Calls, statesFed, verdictsGiven}
-use Rattle.mission.specs.Mission.{readTable, Start, sessionOf, startDelay, verdictOf, ThirdDemand}
-use Rattle.mission.proofs.World.{Watch, Made}
-use Rattle.mission.proofs.Seen.{opened}
-use Rattle.mission.proofs.Listed.{seenBy, come-session, come-claim, beginning}
+use Rattle.acts.proofs.Listed.{within}
+use Rattle.mission.specs.Calls.{AnySession, Act, feed, close, widen, effectOf, rowsOf, Call, Meets, numberOf, Calls, statesFed, verdictsGiven, seenBy}
+use Rattle.mission.specs.Mission.{readTable, Start, sessionOf, openedAs, startDelay, verdictOf, ThirdDemand}
+use Rattle.mission.proofs.World.{Watch, Made, tables}
+use Rattle.mission.proofs.Seen.{opened, seen}
+use Rattle.mission.proofs.Listed.{come-session, come-claim, beginning}
+use Rattle.mission.proofs.Widened.{widened-once, as-if-wide}
 
 -- an accepted simplification
 simpler : (t : Table) (r : Simplified) → Promised t r → r .number ≡ 0 → Simpler t (r .table)
@@ -44,6 +49,9 @@ module _ (m : Start) where
   fresh : sessionOf m ≡ record { table = u; rule = m .rule; seen = 0 }
   fresh = opened-is u (m .rule) (m .opened)
 
+  fresh-as : (width : Width) → openedAs width m ≡ record { base = record { table = u; rule = m .rule; seen = 0 }; width = width }
+  fresh-as width = ap (λ (s : Session). record { base = s; width = width }) fresh
+
   abbrev simple : Watch
   simple = record { table = u; rule = m .rule }
 
@@ -54,36 +62,46 @@ module _ (m : Start) where
   made = record { simpler = better; same = refl; below = watched }
 
   -- a list on the session that open gave
-  from-fresh : {cs : List Call} {s : Session} {h : List ℕ} {ended : Bool} → Calls (sessionOf m) (m .history) cs s h ended
-      → Calls (opened simple (m .history)) (m .history) cs s h ended
-  from-fresh l = rw fresh at l
+  from-fresh : {width : Width} {cs : List Call} {s : AnySession} {h : List ℕ} {ended : Bool} → Calls (openedAs width m) (m .history) cs s h ended
+      → Calls (opened simple width (m .history)) (m .history) cs s h ended
+  from-fresh {width} l = rw (fresh-as width) at l
 
   -- its session has seen the states fed, and none after a close
-  pub session-is : (cs : List Call) (s : Session) (h : List ℕ) (ended : Bool) → Calls (sessionOf m) (m .history) cs s h ended
-      → s ≡ withSeen (sessionOf m) (seenBy ended cs)
-  session-is cs s h ended l =
-      come-session simple as-read made (m .history) cs s h ended (from-fresh l)
+  pub session-is : (width : Width) (cs : List Call) (s : AnySession) (h : List ℕ) (ended : Bool) → Calls (openedAs width m) (m .history) cs s h ended
+      → s .base ≡ withSeen (sessionOf m) (seenBy ended cs)
+  session-is width cs s h ended l =
+      come-session simple as-read made width (m .history) cs s h ended (from-fresh l)
       ∙ ap (λ (q : Session). withSeen q (seenBy ended cs)) (sym fresh)
 
-claim : (m : Start) (cs : List Call) (s : Session) (h : List ℕ) (ended : Bool) → Calls (sessionOf m) (m .history) cs s h ended
-    → Claim (verdictOf m) (startDelay m) (m .history) ended h (statesFed cs) (verdictsGiven cs)
-claim m cs s h ended l = come-claim (simple m) (as-read m) (made m) (m .history) cs s h ended (from-fresh m l)
+  -- whose count is within its limit
+  pub seen-within : (width : Width) (cs : List Call) (s : AnySession) (h : List ℕ) (ended : Bool) → Calls (openedAs width m) (m .history) cs s h ended
+      → s .base .seen ≤ limit (s .width)
+  seen-within width cs s h ended l = rw zero-add at (within tables width simple (m .history) (seen simple width (m .history) (from-fresh l)))
 
-reopened : (m : Start) (cs : List Call) (s : Session) (h : List ℕ) → Calls (sessionOf m) (m .history) cs s h true → s ≡ sessionOf m
-reopened m cs s h l = come-session (simple m) (as-read m) (made m) (m .history) cs s h true (from-fresh m l) ∙ sym (fresh m)
+claim : (m : Start) (width : Width) (cs : List Call) (s : AnySession) (h : List ℕ) (ended : Bool) → Calls (openedAs width m) (m .history) cs s h ended
+    → Claim (verdictOf m) (startDelay m) (m .history) ended h (statesFed cs) (verdictsGiven cs)
+claim m width cs s h ended l = come-claim (simple m) (as-read m) (made m) width (m .history) cs s h ended (from-fresh m l)
+
+reopened : (m : Start) (width : Width) (cs : List Call) (s : AnySession) (h : List ℕ) → Calls (openedAs width m) (m .history) cs s h true → s ≡ openedAs (s .width) m
+reopened m width cs s h l =
+    ap (λ (q : Session). record { base = q; width = s .width })
+    (come-session (simple m) (as-read m) (made m) width (m .history) cs s h true (from-fresh m l) ∙ sym (fresh m))
 
 -- ---- refusals
-number-of : (a : Act) (s : Session) (h x o : List ℕ) → effectOf a s h x o .answer .number ≡ first (rowsOf a s h x o)
-number-of (feed block) s h x o = feed-number s h x o block
-number-of close s h x o = close-number s h x o
+number-of : (a : Act) (s : AnySession) (h x o : List ℕ) → effectOf a s h x o .answer .number ≡ first (rowsOf a s h x o)
+unfolding widening
+number-of (feed block) s h x o = feed-number (s .base) h x o (limit (s .width)) block
+number-of close s h x o = close-number (s .base) h x o
+number-of widen s h x o = refl
 
-numbered-rows : (a : Act) (s : Session) (h x o : List ℕ) → numbered (rowsOf a s h x o) ≡ true
+numbered-rows : (a : Act) (s : AnySession) (h x o : List ℕ) → numbered (rowsOf a s h x o) ≡ true
 numbered-rows (feed block) s h x o = refl
 numbered-rows close s h x o = refl
+numbered-rows widen s h x o = refl
 
 refused-calls : (c : Call) → Meets c → (¬ (numberOf c ≡ 0)) ↔ (someFits (rowsOf (c .act) (c .session) (c .history) (c .scratch) (c .out)) ≡ true)
 refused-calls c m =
-    rw (ap (λ (q : Effect). q .answer .number) m ∙ number-of (c .act) (c .session) (c .history) (c .scratch) (c .out))
+    rw (ap (λ (q : Effect). q .answer .number) (m .is) ∙ number-of (c .act) (c .session) (c .history) (c .scratch) (c .out))
     (refused-exactly (rowsOf (c .act) (c .session) (c .history) (c .scratch) (c .out)) (numbered-rows (c .act) (c .session) (c .history) (c .scratch) (c .out)))
 
 simplify-exactly : (t : Table) (r : Simplified) → Promised t r → (¬ (r .number ≡ 0)) ↔ (someFits (tableRows (isSound t)) ≡ true)
@@ -100,8 +118,11 @@ open-exactly t r = refused-exactly (ruleRows (isSound t) (t .«rule_count») r) 
 pub third-demand : ThirdDemand
 third-demand = record {
   claim = claim;
-  beginnings = λ m cs s h ended l j. beginning (sessionOf m) (m .history) j l;
+  beginnings = λ m width cs s h ended l j. beginning (openedAs width m) (m .history) j l;
   reopened = reopened;
+  counted = λ m width cs s h ended l. (ap (λ (q : Session). q .seen) (session-is m width cs s h ended l), seen-within m width cs s h ended l);
+  widened-once = λ m width cs s h ended l. widened-once l;
+  as-if-wide = λ m width cs s h ended l. as-if-wide m l;
   calls-refused = refused-calls;
   simplify-refused = simplify-exactly;
   open-refused = open-exactly;

@@ -11,12 +11,11 @@ use Rattle.mltl.proofs.Stable.{prefix-stable, future-only}
 use Rattle.table.specs.declared.Table.{Table}
 use Rattle.table.specs.Nodes.{noTable, watchedFormula}
 use Rattle.simplify.specs.Promise.{Simpler}
-use Rattle.session.specs.declared.Session.{Session}
 use Rattle.session.specs.Session.{Effect, unfit}
-use Rattle.acts.specs.World.{World, narrow}
+use Rattle.acts.specs.World.{World, Width}
 use Rattle.acts.specs.World as world
 use Rattle.acts.specs.Calls as acts
-use Rattle.mission.specs.Calls.{Act, feed, close, Call, verdictsOf}
+use Rattle.mission.specs.Calls.{AnySession, Act, feed, close, widen, Call, sessionAfter, verdictsOf}
 
 -- a rule of a table
 pub record Watch : Type 0 where
@@ -40,7 +39,7 @@ pub record Made (r b : Watch) : Type 0 where
 pub as-made : (r b : Watch) → Made r b → (xs : List ℕ) (t : ℕ) → t < length xs → holds (formula r) xs t ≡ holds (formula b) xs t
 as-made r b m xs t h = ap (λ (k : ℕ). holds (watchedFormula (r .table) k) xs t) (m .same) ∙ m .simpler .verdicts (b .rule) (m .below) xs t h
 
--- the rows of refusals before 24; there is no widening and no change yet
+-- the rows of refusals before 24; there is no change yet
 abbrev pub bad : Watch → Bool
 bad r = unfit (record { table = r .table; rule = r .rule; seen = 0 })
 
@@ -50,7 +49,7 @@ short m h x = ltb (length h) 4095 || ltb (length (x .scratch)) 5280 || ltb (leng
 abbrev pub rowsBefore : world.Act Watch Watch → world.Session Watch → List ℕ → Buffers → List Row
 rowsBefore (world.feed block) s h x = (25 if bad (s .rule)) ∷ (22 if ltb 1024 (length block)) ∷ (23 if short 16 h x) ∷ []
 rowsBefore world.close s h x = (25 if bad (s .rule)) ∷ (23 if short 64 h x) ∷ []
-rowsBefore world.widen s h x = []
+rowsBefore world.widen s h x = (25 if bad (s .rule)) ∷ []
 rowsBefore (world.change r b) s h x = []
 
 pub numbers : (a : world.Act Watch Watch) (s : world.Session Watch) (h : List ℕ) (x : Buffers) → numbered (rowsBefore a s h x) ≡ true
@@ -76,16 +75,18 @@ tables = record {
   noRule = record { table = noTable; rule = 0 };
 }
 
--- ---- this crate's sessions, effects and calls, seen there: the count of states is narrow, and the first tick 0
-abbrev pub seenSession : Session → world.Session Watch
-seenSession s = record { rule = record { table = s .table; rule = s .rule }; seen = s .seen; firstTick = 0; phase = narrow }
+-- ---- this crate's sessions, effects and calls, seen there: the first tick is 0
+abbrev pub seenSession : AnySession → world.Session Watch
+seenSession s = record { rule = record { table = s .base .table; rule = s .base .rule }; seen = s .base .seen; firstTick = 0; width = s .width }
 
 abbrev pub seenAct : Act → world.Act Watch Watch
 seenAct (feed block) = world.feed block
 seenAct close = world.close
+seenAct widen = world.widen
 
-abbrev pub seenEffect : (e : Effect) → List Bool → world.Effect tables
-seenEffect e v = record { number = e .answer .number; verdicts = v; session = seenSession (e .answer .session); history = e .history }
+abbrev pub seenEffect : Effect → List Bool → Width → world.Effect tables
+seenEffect e v width =
+    record { number = e .answer .number; verdicts = v; session = seenSession (record { base = e .answer .session; width = width }); history = e .history }
 
 abbrev pub seenCall : Call → acts.Call tables
 seenCall c = record {
@@ -93,5 +94,5 @@ seenCall c = record {
   session = seenSession (c .session);
   history = c .history;
   lent = record { scratch = c .scratch; out = c .out };
-  effect = seenEffect (c .effect) (verdictsOf c);
+  effect = seenEffect (c .effect) (verdictsOf c) (sessionAfter c .width);
 }

@@ -4,7 +4,7 @@ use native.Mathlib.Omega.{arith}
 use mathlib.Core.Path.{_≡_, refl, sym, ap, ap₂, _∙_}
 use mathlib.Core.Bool.{Bool, true, false, not, _||_}
 use mathlib.Core.List.{List, [], _++_, append-assoc, append-nil}
-use borrow.Author.Tests.{eq-eqb, ne-eqb, not-false, leb-false, ltb-false}
+use borrow.Author.Tests.{lt-leb, eq-eqb, ne-eqb, not-false, leb-false, ltb-false}
 use borrow.Rule.Slice.PartMut.{midOf, putMid}
 use lib.Dec.{ltb, leb, eqb}
 use lib.ListN.{length, take, drop, replicate, length-append, length-take, length-drop}
@@ -18,13 +18,13 @@ use Rattle.mltl.specs.Mltl.{delay}
 use Rattle.table.specs.declared.Table.{Table}
 use Rattle.table.specs.declared.RuleDelay.{RuleDelay}
 use Rattle.table.specs.Nodes.{formulaAt, ruleAt}
-use Rattle.table.specs.Sound.{isSound, delayNumber, ruleDelay}
+use Rattle.table.specs.Sound.{Sound, isSound, delayNumber, ruleDelay}
 use Rattle.table.proofs.Soundness.{sound-iff, watched-short}
 use Rattle.verdict.specs.Verdict.{withVerdicts, cleared, ready, Judged}
 use Rattle.verdict.proofs.Answers.{ready-sound}
 use Rattle.session.specs.declared.Session.{Session}
 use Rattle.session.specs.declared.Opening.{Opening}
-use Rattle.session.specs.Session.{Effect, noSession, opening, refused, unfit, delayOf, withSeen, verdictWords, feedRows, feedNumber, fed, feeding, closeRows, closeNumber, closed, closing}
+use Rattle.session.specs.Session.{Effect, noSession, opening, refused, unfit, delayOf, withSeen, verdictWords, feedRows, feedNumber, fed, feedingWithin, feeding, closeRows, closeNumber, closed, closing}
 use Rattle.session.specs.Code.Steps.{Writable, Fit, Feedable, Closable}
 
 -- ---- open
@@ -47,6 +47,19 @@ module _ (t : Table) (r : ℕ) {d : RuleDelay} (e : d ≡ ruleDelay t r) where
 pub over-limit : (seen k : ℕ) → seen ≤ maxSeen → ltb (maxSeen - seen) k ≡ ltb maxSeen (seen + k)
 over-limit seen k h = same-test _ _ (ltb-iff (maxSeen - seen) k) (ltb-iff maxSeen (seen + k)) (λ l. omega arith) (λ l. omega arith)
 
+-- a session that is not unfit: its table is sound, and its rule is there
+fit-tests : (s : Session) → unfit s ≡ false → (isSound (s .table) ≡ true) × (leb (s .table .«rule_count») (s .rule) ≡ false)
+fit-tests s u = (
+  not-false (isSound (s .table)) (or-left (not (isSound (s .table))) _ u),
+  or-right (not (isSound (s .table))) (leb (s .table .«rule_count») (s .rule)) u,
+)
+
+pub fit-sound : (s : Session) → unfit s ≡ false → Sound (s .table) × (s .rule < s .table .«rule_count»)
+fit-sound s u = let t = fit-tests s u in (sound-iff (s .table) .0 (t .0), leb-false (s .table .«rule_count») (s .rule) (t .1))
+
+pub sound-fit : (s : Session) → Sound (s .table) → s .rule < s .table .«rule_count» → unfit s ≡ false
+sound-fit s z r = rw (sound-iff (s .table) .1 z, lt-leb (s .table .«rule_count») (s .rule) r)
+
 -- a session is unfit where the delay of its rule is refused
 module _ (s : Session) {d : RuleDelay} (e : d ≡ ruleDelay (s .table) (s .rule)) where
   delay-number : d .number ≡ delayNumber (s .table) (s .rule)
@@ -64,24 +77,24 @@ module _ (s : Session) {d : RuleDelay} (e : d ≡ ruleDelay (s .table) (s .rule)
   pub fit-is : unfit s ≡ false → {h x : List ℕ} → 4095 ≤ length h → 5280 ≤ length x → Fit s (d .delay) h x
   unfolding ruleDelay
   fit-is u p q =
-      let a : isSound (s .table) ≡ true = not-false (isSound (s .table)) (or-left (not (isSound (s .table))) _ u) in
-      let b : leb (s .table .«rule_count») (s .rule) ≡ false = or-right (not (isSound (s .table))) (leb (s .table .«rule_count») (s .rule)) u in
+      let t = fit-tests s u in
+      let f = fit-sound s u in
       record {
-        sound = sound-iff (s .table) .0 a;
-        rule = leb-false (s .table .«rule_count») (s .rule) b;
-        delay = ap (λ (x : RuleDelay). x .delay) e ∙ rw (a, b);
+        sound = f .0;
+        rule = f .1;
+        delay = ap (λ (x : RuleDelay). x .delay) e ∙ rw (t .0, t .1);
         history-words = p;
         scratch-words = q;
       }
 
 -- ---- a call that is refused, and one that is accepted, by its number
-module _ (s : Session) (block h x o : List ℕ) {n : ℕ} (e : n ≡ feedNumber s (length block) (length h) (length x) (length o)) where
+module _ (s : Session) (block h x o : List ℕ) {n : ℕ} (e : n ≡ feedNumber maxSeen s (length block) (length h) (length x) (length o)) where
   pub fed-refused : (n ≡ 0 → ⊥) → refused n s h x o ≡ feeding s block h x o
-  unfolding feeding
+  unfolding feedingWithin
   fed-refused r = rw (← e, ne-eqb n 0 r)
 
   pub fed-accepted : {z : Effect} → n ≡ 0 → z ≡ fed s block h x o → z ≡ feeding s block h x o
-  unfolding feeding
+  unfolding feedingWithin
   fed-accepted r p = rw (← e, eq-eqb n 0 r) p
 
 module _ (s : Session) (h x o : List ℕ) {n : ℕ} (e : n ≡ closeNumber s (length h) (length x) (length o)) where
@@ -94,13 +107,13 @@ module _ (s : Session) (h x o : List ℕ) {n : ℕ} (e : n ≡ closeNumber s (le
   closed-accepted r p = rw (← e, eq-eqb n 0 r) p
 
 -- what the number 0 says
-pub record FeedFits (bad : Bool) (seen k h x o : ℕ) : Type 0 where
+pub record FeedFits (limit : ℕ) (bad : Bool) (seen k h x o : ℕ) : Type 0 where
   pub fit : bad ≡ false
   pub few : k ≤ 1024
   pub history : 4095 ≤ h
   pub scratch : 5280 ≤ x
   pub out : 16 ≤ o
-  pub count : seen + k ≤ maxSeen
+  pub count : seen + k ≤ limit
 
 buffers : (h x o m : ℕ) → (ltb h 4095 || ltb x 5280 || ltb o m) ≡ false → (4095 ≤ h) × (5280 ≤ x) × (m ≤ o)
 buffers h x o m e =
@@ -110,11 +123,11 @@ buffers h x o m e =
       ltb-false o m (or-right (ltb h 4095 || ltb x 5280) (ltb o m) e),
     )
 
-pub feed-fits : (bad : Bool) (seen k h x o : ℕ) → first (feedRows bad seen k h x o) ≡ 0 → FeedFits bad seen k h x o
-feed-fits bad seen k h x o e =
-    let no = no-row (feedRows bad seen k h x o) refl e in
+pub feed-fits : (limit : ℕ) (bad : Bool) (seen k h x o : ℕ) → first (feedRows limit bad seen k h x o) ≡ 0 → FeedFits limit bad seen k h x o
+feed-fits limit bad seen k h x o e =
+    let no = no-row (feedRows limit bad seen k h x o) refl e in
     let b = buffers h x o 16 (no 2) in
-    record { fit = no 0; few = ltb-false 1024 k (no 1); history = b .0; scratch = b .1; out = b .2; count = ltb-false maxSeen (seen + k) (no 3) }
+    record { fit = no 0; few = ltb-false 1024 k (no 1); history = b .0; scratch = b .1; out = b .2; count = ltb-false limit (seen + k) (no 3) }
 
 pub record CloseFits (bad : Bool) (h x o : ℕ) : Type 0 where
   pub fit : bad ≡ false
@@ -242,7 +255,4 @@ module _ {s : Session} {d : ℕ} {h x o : List ℕ} (f : Closable s d h x o) whe
     close-is e z (ex, eo) = rw (ex, eo, e, z, append-nil, p, f .fit .delay)
 
 pub unfit-short : (s : Session) → unfit s ≡ false → delayOf s ≤ 4095
-unfit-short s u =
-    let a : isSound (s .table) ≡ true = not-false (isSound (s .table)) (or-left (not (isSound (s .table))) _ u) in
-    let b : leb (s .table .«rule_count») (s .rule) ≡ false = or-right (not (isSound (s .table))) (leb (s .table .«rule_count») (s .rule)) u in
-    watched-short (s .table) (s .rule) (sound-iff (s .table) .0 a) (leb-false (s .table .«rule_count») (s .rule) b)
+unfit-short s u = let f = fit-sound s u in watched-short (s .table) (s .rule) (f .0) (f .1)

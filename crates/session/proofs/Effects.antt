@@ -1,11 +1,11 @@
 -- Effects by their number: a call whose number is 0 is accepted, and any other refused. Assumes nothing.
-use Prim.Native.Nat.{ℕ, _+_, _-_, _/_, _<_}
+use Prim.Native.Nat.{ℕ, _-_, _/_, _<_}
 use native.Mathlib.Omega.{arith}
 use mathlib.Core.Path.{_≡_, refl, sym, ap, _∙_}
-use mathlib.Core.Bool.{Bool, true, false}
+use mathlib.Core.Bool.{true, false}
 use mathlib.Core.Logic.{⊎-elim}
 use mathlib.Core.List.{List, _++_, append-assoc}
-use borrow.Author.Tests.{eq-eqb, eqb-true, eqb-false, lt-leb}
+use borrow.Author.Tests.{eq-eqb, eqb-true, eqb-false}
 use lib.Dec.{eqb}
 use lib.ListN.{length, getD, drop, replicate, List·getD-append}
 use Rattle.lists.specs.Choice.{pick}
@@ -16,10 +16,11 @@ use Rattle.lists.proofs.Sequences.{ticks-ext}
 use Rattle.lists.proofs.Columns.{bitAt-same, length-packed, packed-in}
 use Rattle.mltl.specs.Mltl.{Formula, holds}
 use Rattle.table.specs.declared.Table.{Table}
-use Rattle.table.specs.Sound.{isSound, Sound, delayNumber}
-use Rattle.table.proofs.Soundness.{sound-iff, rule-there}
+use Rattle.table.specs.Sound.{Sound, delayNumber}
+use Rattle.table.proofs.Soundness.{rule-there}
 use Rattle.session.specs.declared.Session.{Session}
-use Rattle.session.specs.Session.{Effect, refused, unfit, verdictWords, feedNumber, fed, feeding, closeNumber, closed, closing, opening, noSession}
+use Rattle.session.specs.Session.{Effect, refused, unfit, verdictWords, feedNumber, fed, feedingWithin, closeNumber, closed, closing, opening}
+use Rattle.session.proofs.Answers.{sound-fit}
 
 -- a choice between an accepted effect, whose number is 0, and a refused one
 module _ (n : ℕ) (yes : Effect) (zero : yes .answer .number ≡ 0) (s : Session) (h x o : List ℕ) where
@@ -37,20 +38,20 @@ module _ (n : ℕ) (yes : Effect) (zero : yes .answer .number ≡ 0) (s : Sessio
   chosen-number = ⊎-elim (λ (b : eqb n 0 ≡ true). rw b (zero ∙ sym (eqb-true n 0 b))) (λ (b : eqb n 0 ≡ false). rw b) (true-or-false (eqb n 0))
 
 module _ (s : Session) (h x o : List ℕ) where
-  module _ (block : List ℕ) where
+  module _ (limit : ℕ) (block : List ℕ) where
     abbrev n : ℕ
-    n = feedNumber s (length block) (length h) (length x) (length o)
+    n = feedNumber limit s (length block) (length h) (length x) (length o)
 
-    pub feed-number : feeding s block h x o .answer .number ≡ n
-    unfolding feeding
+    pub feed-number : feedingWithin limit s block h x o .answer .number ≡ n
+    unfolding feedingWithin
     feed-number = chosen-number n (fed s block h x o) refl s h x o
 
-    pub feed-accepted : feeding s block h x o .answer .number ≡ 0 → (feeding s block h x o ≡ fed s block h x o) × (n ≡ 0)
-    unfolding feeding
+    pub feed-accepted : feedingWithin limit s block h x o .answer .number ≡ 0 → (feedingWithin limit s block h x o ≡ fed s block h x o) × (n ≡ 0)
+    unfolding feedingWithin
     feed-accepted e = accepted-is n (fed s block h x o) refl s h x o e
 
-    pub feed-refused : (feeding s block h x o .answer .number ≡ 0 → ⊥) → (feeding s block h x o ≡ refused n s h x o) × (n ≡ 0 → ⊥)
-    unfolding feeding
+    pub feed-refused : (feedingWithin limit s block h x o .answer .number ≡ 0 → ⊥) → (feedingWithin limit s block h x o ≡ refused n s h x o) × (n ≡ 0 → ⊥)
+    unfolding feedingWithin
     feed-refused e = refused-is n (fed s block h x o) refl s h x o e
 
   pub close-number : closing s h x o .answer .number ≡ closeNumber s (length h) (length x) (length o)
@@ -91,15 +92,4 @@ opened-sound t r e = rule-there t r e .0
 
 -- so it is fit
 pub opened-fit : (t : Table) (r : ℕ) → opening t r .number ≡ 0 → unfit (opening t r .session) ≡ false
-opened-fit t r e =
-    let s : isSound t ≡ true = sound-iff t .1 (opened-sound t r e) in
-    rw (opened-is t r e, s, lt-leb (t .«rule_count») r (opened-rule t r e))
-
--- no open gives a session that has seen a state
-pub opened-unseen : (t : Table) (r : ℕ) → opening t r .session .seen ≡ 0
-unfolding opening
-opened-unseen t r = go (eqb (delayNumber t r) 0)
-  where
-    go : (b : Bool) → pick b (record { table = t; rule = r; seen = 0 }) noSession .seen ≡ 0
-    go true = refl
-    go false = refl
+opened-fit t r e = rw (opened-is t r e) (sound-fit (record { table = t; rule = r; seen = 0 }) (opened-sound t r e) (opened-rule t r e))

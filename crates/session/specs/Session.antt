@@ -1,4 +1,4 @@
--- What open, feed and close answer, and what they leave in the buffers that they were lent (document 01, Session).
+-- What open, feed and close answer, and what they leave in the buffers that they were lent (document 01, Session; A4).
 use Prim.Native.Nat.{ℕ, _+_, _-_, min}
 use mathlib.Core.Bool.{Bool, _||_, not}
 use mathlib.Core.List.{List, [], _∷_, _++_}
@@ -69,14 +69,14 @@ abbrev pub verdictWords : ℕ → ℕ → Formula → List ℕ → List ℕ → 
 verdictWords m count f trace o = padded 0 m (packed count (holds f trace)) ++ drop m o
 
 -- ---- feed of a block
--- its rows of refusals: k is the length of the block, h, x and o those of history, scratch and out
-abbrev pub feedRows : Bool → ℕ → ℕ → ℕ → ℕ → ℕ → List Row
-feedRows bad seen k h x o =
+-- its rows of refusals under a limit of the count of states: k is the length of the block, h, x and o those of history, scratch and out
+abbrev pub feedRows : ℕ → Bool → ℕ → ℕ → ℕ → ℕ → ℕ → List Row
+feedRows limit bad seen k h x o =
     (UNSOUND if bad) ∷ (STATES if ltb maxBlock k) ∷ (BUFFER if (ltb h historyWords || ltb x scratchWords || ltb o feedWords)) ∷
-    (SEEN if ltb maxSeen (seen + k)) ∷ []
+    (SEEN if ltb limit (seen + k)) ∷ []
 
-abbrev pub feedNumber : Session → ℕ → ℕ → ℕ → ℕ → ℕ
-feedNumber s k h x o = first (feedRows (unfit s) (s .seen) k h x o)
+abbrev pub feedNumber : ℕ → Session → ℕ → ℕ → ℕ → ℕ → ℕ
+feedNumber limit s k h x o = first (feedRows limit (unfit s) (s .seen) k h x o)
 
 -- how many ticks are settled by k states more
 abbrev pub feedCount : Session → ℕ → ℕ
@@ -90,10 +90,13 @@ fed s block h x o = record {
   out = verdictWords feedWords (feedCount s (length block)) (formulaOf s) (keptOf s h ++ block) o;
 }
 
-unfoldable pub feeding : Session → List ℕ → List ℕ → List ℕ → List ℕ → Effect
-feeding s block h x o =
-    let n = feedNumber s (length block) (length h) (length x) (length o) in
+unfoldable pub feedingWithin : ℕ → Session → List ℕ → List ℕ → List ℕ → List ℕ → Effect
+feedingWithin limit s block h x o =
+    let n = feedNumber limit s (length block) (length h) (length x) (length o) in
     pick (eqb n 0) (fed s block h x o) (refused n s h x o)
+
+abbrev pub feeding : Session → List ℕ → List ℕ → List ℕ → List ℕ → Effect
+feeding s block h x o = feedingWithin maxSeen s block h x o
 
 -- ---- close
 abbrev pub closeRows : Bool → ℕ → ℕ → ℕ → List Row

@@ -3,7 +3,7 @@ ghost use mathlib.Core.Path.{_≡_};
 ghost use mathlib.Core.List.{_++_};
 ghost use Prim.Native.Nat.{_+_, _-_, _≤_, min};
 ghost use lib.ListN.{length, take, drop};
-ghost use Rattle.limits.specs.Limits.{maxBlock};
+ghost use Rattle.limits.specs.Limits.{maxBlock, maxSeen};
 ghost use Rattle.lists.specs.Choice.{first};
 ghost use Rattle.table.specs.Nodes.{formulaAt};
 ghost use Rattle.verdict.specs.Verdict.{cleared};
@@ -21,9 +21,10 @@ use table::Table;
 pub struct Session {
     pub table: Table,
     pub rule: usize,
-    pub seen: u32,
+    pub seen: u64,
 }
 
+// The number of a refusal or 0, and the session that is given, or 'no session'.
 pub struct Opening {
     pub number: u8,
     pub session: Session,
@@ -37,7 +38,7 @@ pub struct Answer {
 }
 
 impl Session {
-    pub fn with(table: Table, rule: usize, seen: u32) -> Session
+    pub fn with(table: Table, rule: usize, seen: u64) -> Session
         ensures { λ r. ⌜ r ≡ sessionWith table rule seen ⌝ }
     {
         Session { table, rule, seen }
@@ -106,14 +107,15 @@ impl Session {
     }
 }
 
-fn no_session() -> Session
+// Document 01's 'no session'.
+pub fn no_session() -> Session
     ensures { λ r. ⌜ r ≡ noSession ⌝ }
 {
     Session::with(table::no_table(), 0, 0)
 }
 
 // With another count of states seen.
-fn with_seen(s: Session, seen: u32) -> Session
+fn with_seen(s: Session, seen: u64) -> Session
     ensures { λ r. ⌜ r ≡ withSeen s seen ⌝ }
 {
     Session::with(s.table, s.rule, seen)
@@ -184,8 +186,8 @@ fn write_verdicts(
 }
 
 // The number of a feed of k states, where `unfit` says whether the session is, and the buffers have these lengths.
-fn feed_number(unfit: bool, seen: u32, k: usize, history: usize, scratch: usize, out: usize) -> u8
-    ensures { λ r. ⌜ r ≡ first (feedRows unfit seen k history scratch out) ⌝ }
+fn feed_number(unfit: bool, seen: u64, k: usize, history: usize, scratch: usize, out: usize) -> u8
+    ensures { λ r. ⌜ r ≡ first (feedRows maxSeen unfit seen k history scratch out) ⌝ }
 {
     let left = MAX_SEEN - seen as usize;
     let short = (history < HISTORY_WORDS) | (scratch < SCRATCH_WORDS) | (out < FEED_WORDS);
@@ -233,7 +235,7 @@ fn advance(
         out,
     );
     keep(history, h, block, lesser(after, d));
-    let session = with_seen(s, after as u32);
+    let session = with_seen(s, after as u64);
     Answer {
         number: 0,
         count,

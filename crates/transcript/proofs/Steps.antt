@@ -1,5 +1,5 @@
 -- Each step of the program keeps what was shown right for what was read. Assumes nothing.
-use Prim.Native.Nat.{ℕ, _+_, _-_, _≤_, _<_}
+use Prim.Native.Nat.{ℕ, _+_, _-_, _≤_, _<_, min}
 use native.Mathlib.Omega.{arith}
 use mathlib.Core.Path.{_≡_, refl, sym, ap, _∙_}
 use mathlib.Core.Bool.{Bool, true, false, not}
@@ -19,9 +19,10 @@ use Rattle.session.specs.declared.Session.{Session}
 use Rattle.session.specs.Session.{Effect, feeding, closing, unfit, withSeen, delayOf as delayIn}
 use Rattle.session.proofs.Effects.{opened-is, opened-rule, opened-sound, opened-fit, feed-number, close-number}
 use Rattle.acts.specs.Claim.{Going}
-use Rattle.mission.specs.Calls.{Call, feed, close, begin, accepted, statesFed, verdictsGiven}
+use Rattle.acts.specs.World.{wide}
+use Rattle.mission.specs.Calls.{asWide, sessionAfter, Call, feed, close, begin, accepted, statesFed, verdictsGiven}
 use Rattle.mission.specs.Mission.{Start, sessionOf, startDelay, verdictOf}
-use Rattle.mission.proofs.ThirdDemand.{third-demand, session-is}
+use Rattle.mission.proofs.ThirdDemand.{third-demand, session-is, seen-within}
 use Rattle.mission.proofs.Listed.{states-snoc, verdicts-snoc}
 use Rattle.lines.specs.declared.Line.{Line}
 use Rattle.lines.specs.Lines.{Parsed, state, bad, parsedLines, parsedFrom, empty, parsedOf, Filling, filling}
@@ -70,7 +71,7 @@ module _ (m : Start) where
     fed = statesFed (r .calls)
 
     going : Going (verdictOf m) D (m .history) h fed (verdictsGiven (r .calls))
-    going = third-demand .claim m (r .calls) s h false (r .reached)
+    going = third-demand .claim m wide (r .calls) (asWide s) h false (r .reached)
 
     -- what was shown are the rows of the settled ticks, on every trace that begins with the states fed
     shown-is : (more : List ℕ) → shown ≡ rowsUpTo m (fed ++ more) (length fed - D)
@@ -105,7 +106,7 @@ module _ (m : Start) where
 
     -- ---- the session
     same-session : s ≡ withSeen (sessionOf m) (length fed)
-    same-session = session-is m (r .calls) s h false (r .reached)
+    same-session = session-is m wide (r .calls) (asWide s) h false (r .reached)
 
     seen-is : s .seen ≡ length fed
     seen-is = ap (λ (q : Session). q .seen) same-session
@@ -113,86 +114,90 @@ module _ (m : Start) where
     fit : unfit s ≡ false
     fit = rw same-session (first-fit m)
 
+    delay-is : delayIn s ≡ D
+    delay-is = rw (same-session, opened-is (m .simplified .table) (m .rule) (m .opened))
+
     -- a rule of a sound table has a short delay
     pub delay-short : delayIn s ≤ 4095
     delay-short =
         let u = m .simplified .table in
-        rw (same-session, opened-is u (m .rule) (m .opened))
+        rw delay-is
         (watched-short u (m .rule) (opened-sound u (m .rule) (m .opened)) (opened-rule u (m .rule) (m .opened)))
 
-    -- no more verdicts than states
-    pub few : tick ≤ s .seen
-    few = omega (arith, seen-is, r .next, going .sum)
+    -- the count of states is within its limit, and so are the ticks whose verdicts a close gives
+    counted : s .seen ≤ maxSeen
+    counted = seen-within m wide (r .calls) (asWide s) h false (r .reached)
 
-    -- the count of states has 32 bits
-    module _ (counted : s .seen ≤ 4294967295) where
-      -- ---- a bad line: nothing more is fed
-      pub stopped-bad : last ≡ false → (xs : List ℕ) → f xs .isBad ≡ true
-          → Stopped m (read ++ take (f xs .used) xs) (shown ++ badLine (s .seen + (length waiting + length (f xs .states)) + 1))
+    pub ticks-within : tick + min (s .seen) (delayIn s) ≤ maxSeen
+    ticks-within = rw delay-is (omega (arith, seen-is, r .next, going .sum, counted))
+
+    -- ---- a bad line: nothing more is fed
+    pub stopped-bad : last ≡ false → (xs : List ℕ) → f xs .isBad ≡ true
+        → Stopped m (read ++ take (f xs .used) xs) (shown ++ badLine (s .seen + (length waiting + length (f xs .states)) + 1))
+    unfolding printed
+    stopped-bad e xs b later =
+        let all = fed ++ (waiting ++ f xs .states) in
+        let k = fill-stops (1024 - length waiting) line xs .spare b in
+        let w : parsedLines ((read ++ take (f xs .used) xs) ++ later) ≡ map state all ++ (bad ∷ parsedFrom (f xs .line) later) =
+        said xs later ∙ rw b (states-join xs (bad ∷ parsedFrom (f xs .line) later)) in
+        let n : length all ≡ length fed + (length waiting + length (f xs .states)) =
+        omega (arith, length-append fed (waiting ++ f xs .states), length-append waiting (f xs .states)) in
+        let i : inBlocks (length all) ≡ length fed = omega (arith, n, k, r .blocks e) in
+        let t : toldBad m all ≡ rowsUpTo m all (length fed - D) ++ badLine (length all + 1) = rw (i, le-leb (length fed) maxSeen (omega (arith, counted, seen-is))) in
+        let u : length all + 1 ≡ s .seen + (length waiting + length (f xs .states)) + 1 = omega (arith, n, seen-is) in
+        ap (told m) w
+        ∙ rw (bad-first all (bad ∷ parsedFrom (f xs .line) later), states-first all (bad ∷ parsedFrom (f xs .line) later), append-nil all)
+        (t ∙ rw (u, ← shown-is (waiting ++ f xs .states)))
+
+    -- ---- a feed of the states that wait
+    module _ (x o : List ℕ) (hh : 4095 ≤ length h) (hx : 5280 ≤ length x) (ho : 16 ≤ length o) where
+      abbrev answer : Effect
+      answer = feeding s waiting h x o
+
+      abbrev call : Call
+      call = record { act = feed waiting; session = asWide s; history = h; scratch = x; out = o; effect = answer }
+
+      number-is : answer .answer .number ≡ pick (ltb maxSeen (s .seen + length waiting)) 24 0
+      number-is =
+          feed-number s h x o maxSeen waiting
+          ∙ rw (fit, le-ltb 1024 (length waiting) (r .fits), le-ltb (length h) 4095 hh, le-ltb (length x) 5280 hx, le-ltb (length o) 16 ho)
+
+      pub running-fed : last ≡ false → answer .answer .number ≡ 0
+          → Running m (not (eqb (length waiting) 1024)) read (shown ++ rowsNamed (ruleName m) tick (ticks (bitAt (answer .out)) (answer .answer .count)))
+          (answer .answer .session) (answer .history) line [] (tick + answer .answer .count)
+      running-fed e z =
+          let us = ticks (bitAt (answer .out)) (answer .answer .count) in
+          let g : verdictsGiven (r .calls ++ (call ∷ [])) ≡ verdictsGiven (r .calls) ++ us = verdicts-snoc (r .calls) call in
+          let t : statesFed (r .calls ++ (call ∷ [])) ≡ fed ++ waiting = states-snoc (r .calls) call ∙ rw (eq-eqb (answer .answer .number) 0 z) in
+          let a : 0 + length (verdictsGiven (r .calls)) ≡ tick = omega (arith, r .next) in
+          record {
+            calls = r .calls ++ (call ∷ []);
+            reached = accepted call (r .reached) (record { takes = tt; is = refl }) z;
+            rows = rw (g, rows-append (decimal (ruleName m)) 0 (verdictsGiven (r .calls)) us, a, ← r .rows);
+            next = rw (g, length-append (verdictsGiven (r .calls)) us, length-ticks (bitAt (answer .out)) (answer .answer .count)) (omega (arith, r .next));
+            blocks = λ b. (let k : length waiting ≡ 1024 = eqb-true (length waiting) 1024 (not-false _ b) in
+                rw (t, length-append fed waiting) (omega (arith, k, r .blocks e)));
+            fits = omega arith;
+            text = λ later. r .text later ∙ rw (t, append-nil (fed ++ waiting));
+          }
+
+      pub stopped-fed : last ≡ false → (answer .answer .number ≡ 0 → ⊥) → Stopped m read (shown ++ feedLine (answer .answer .number))
       unfolding printed
-      stopped-bad e xs b later =
-          let all = fed ++ (waiting ++ f xs .states) in
-          let k = fill-stops (1024 - length waiting) line xs .spare b in
-          let w : parsedLines ((read ++ take (f xs .used) xs) ++ later) ≡ map state all ++ (bad ∷ parsedFrom (f xs .line) later) =
-          said xs later ∙ rw b (states-join xs (bad ∷ parsedFrom (f xs .line) later)) in
-          let n : length all ≡ length fed + (length waiting + length (f xs .states)) =
-          omega (arith, length-append fed (waiting ++ f xs .states), length-append waiting (f xs .states)) in
-          let i : inBlocks (length all) ≡ length fed = omega (arith, n, k, r .blocks e) in
-          let t : toldBad m all ≡ rowsUpTo m all (length fed - D) ++ badLine (length all + 1) = rw (i, le-leb (length fed) maxSeen (omega (arith, counted, seen-is))) in
-          let u : length all + 1 ≡ s .seen + (length waiting + length (f xs .states)) + 1 = omega (arith, n, seen-is) in
-          ap (told m) w
-          ∙ rw (bad-first all (bad ∷ parsedFrom (f xs .line) later), states-first all (bad ∷ parsedFrom (f xs .line) later), append-nil all)
-          (t ∙ rw (u, ← shown-is (waiting ++ f xs .states)))
-
-      -- ---- a feed of the states that wait
-      module _ (x o : List ℕ) (hh : 4095 ≤ length h) (hx : 5280 ≤ length x) (ho : 16 ≤ length o) where
-        abbrev answer : Effect
-        answer = feeding s waiting h x o
-
-        abbrev call : Call
-        call = record { act = feed waiting; session = s; history = h; scratch = x; out = o; effect = answer }
-
-        number-is : answer .answer .number ≡ pick (ltb maxSeen (s .seen + length waiting)) 24 0
-        number-is =
-            feed-number s h x o waiting
-            ∙ rw (fit, le-ltb 1024 (length waiting) (r .fits), le-ltb (length h) 4095 hh, le-ltb (length x) 5280 hx, le-ltb (length o) 16 ho)
-
-        pub running-fed : last ≡ false → answer .answer .number ≡ 0
-            → Running m (not (eqb (length waiting) 1024)) read (shown ++ rowsNamed (ruleName m) tick (ticks (bitAt (answer .out)) (answer .answer .count)))
-            (answer .answer .session) (answer .history) line [] (tick + answer .answer .count)
-        running-fed e z =
-            let us = ticks (bitAt (answer .out)) (answer .answer .count) in
-            let g : verdictsGiven (r .calls ++ (call ∷ [])) ≡ verdictsGiven (r .calls) ++ us = verdicts-snoc (r .calls) call in
-            let t : statesFed (r .calls ++ (call ∷ [])) ≡ fed ++ waiting = states-snoc (r .calls) call ∙ rw (eq-eqb (answer .answer .number) 0 z) in
-            let a : 0 + length (verdictsGiven (r .calls)) ≡ tick = omega (arith, r .next) in
-            record {
-              calls = r .calls ++ (call ∷ []);
-              reached = accepted call (r .reached) refl z;
-              rows = rw (g, rows-append (decimal (ruleName m)) 0 (verdictsGiven (r .calls)) us, a, ← r .rows);
-              next = rw (g, length-append (verdictsGiven (r .calls)) us, length-ticks (bitAt (answer .out)) (answer .answer .count)) (omega (arith, r .next));
-              blocks = λ b. (let k : length waiting ≡ 1024 = eqb-true (length waiting) 1024 (not-false _ b) in
-                  rw (t, length-append fed waiting) (omega (arith, k, r .blocks e)));
-              fits = omega arith;
-              text = λ later. r .text later ∙ rw (t, append-nil (fed ++ waiting));
-            }
-
-        pub stopped-fed : last ≡ false → (answer .answer .number ≡ 0 → ⊥) → Stopped m read (shown ++ feedLine (answer .answer .number))
-        unfolding printed
-        stopped-fed e z later =
-            let over : ltb maxSeen (s .seen + length waiting) ≡ true =
-            ⊎-elim (λ (b : ltb maxSeen (s .seen + length waiting) ≡ true). b) (λ (b : ltb maxSeen (s .seen + length waiting) ≡ false). absurd (z (number-is ∙ rw b)))
-            (true-or-false (ltb maxSeen (s .seen + length waiting))) in
-            let n : answer .answer .number ≡ 24 = number-is ∙ rw over in
-            let lt = ltb-true maxSeen (s .seen + length waiting) over in
-            let most : length fed ≡ inBlocks maxSeen = omega (arith, lt, counted, seen-is, r .fits, r .blocks e) in
-            let rs = parsedFrom line later in
-            let all = (fed ++ waiting) ++ statesIn rs in
-            let long : maxSeen < length all = omega (arith, lt, seen-is, length-append (fed ++ waiting) (statesIn rs), length-append fed waiting) in
-            let a : toldAll m all ≡ feedRefused m all = rw (lt-leb (length all) maxSeen long) in
-            let b : toldBad m all ≡ feedRefused m all = rw (lt-leb (inBlocks (length all)) maxSeen (omega (arith, long))) in
-            let w : feedRefused m all ≡ shown ++ feedLine 24 = rw (← most, append-assoc fed waiting (statesIn rs), ← shown-is (waiting ++ statesIn rs)) in
-            ap (told m) (r .text later)
-            ∙ rw (bad-first (fed ++ waiting) rs, states-first (fed ++ waiting) rs) (either (noneBad rs) a b ∙ w ∙ rw (← n))
+      stopped-fed e z later =
+          let over : ltb maxSeen (s .seen + length waiting) ≡ true =
+          ⊎-elim (λ (b : ltb maxSeen (s .seen + length waiting) ≡ true). b) (λ (b : ltb maxSeen (s .seen + length waiting) ≡ false). absurd (z (number-is ∙ rw b)))
+          (true-or-false (ltb maxSeen (s .seen + length waiting))) in
+          let n : answer .answer .number ≡ 24 = number-is ∙ rw over in
+          let lt = ltb-true maxSeen (s .seen + length waiting) over in
+          let most : length fed ≡ inBlocks maxSeen = omega (arith, lt, counted, seen-is, r .fits, r .blocks e) in
+          let rs = parsedFrom line later in
+          let all = (fed ++ waiting) ++ statesIn rs in
+          let long : maxSeen < length all = omega (arith, lt, seen-is, length-append (fed ++ waiting) (statesIn rs), length-append fed waiting) in
+          let a : toldAll m all ≡ feedRefused m all = rw (lt-leb (length all) maxSeen long) in
+          let b : toldBad m all ≡ feedRefused m all = rw (lt-leb (inBlocks (length all)) maxSeen (omega (arith, long))) in
+          let w : feedRefused m all ≡ shown ++ feedLine 24 = rw (← most, append-assoc fed waiting (statesIn rs), ← shown-is (waiting ++ statesIn rs)) in
+          ap (told m) (r .text later)
+          ∙ rw (bad-first (fed ++ waiting) rs, states-first (fed ++ waiting) rs) (either (noneBad rs) a b ∙ w ∙ rw (← n))
 
     -- ---- the end of the input
     -- a last line that lacks its line end says what it would with it
@@ -205,12 +210,12 @@ module _ (m : Start) where
         ap (told m) c
 
     -- the close
-    module _ (counted : s .seen ≤ 4294967295) (x o : List ℕ) (hh : 4095 ≤ length h) (hx : 5280 ≤ length x) (ho : 64 ≤ length o) where
+    module _ (x o : List ℕ) (hh : 4095 ≤ length h) (hx : 5280 ≤ length x) (ho : 64 ≤ length o) where
       abbrev closed : Effect
       closed = closing s h x o
 
       abbrev closeCall : Call
-      closeCall = record { act = close; session = s; history = h; scratch = x; out = o; effect = closed }
+      closeCall = record { act = close; session = asWide s; history = h; scratch = x; out = o; effect = closed }
 
       pub close-accepted : closed .answer .number ≡ 0
       close-accepted = close-number s h x o ∙ rw (fit, le-ltb (length h) 4095 hh, le-ltb (length x) 5280 hx, le-ltb (length o) 64 ho)
@@ -219,7 +224,7 @@ module _ (m : Start) where
       unfolding printed parsedFrom
       printed-all d none =
           let us = ticks (bitAt (closed .out)) (closed .answer .count) in
-          let c = third-demand .claim m (r .calls ++ (closeCall ∷ [])) (closed .answer .session) (closed .history) true (accepted closeCall (r .reached) refl close-accepted) in
+          let c = third-demand .claim m wide (r .calls ++ (closeCall ∷ [])) (sessionAfter closeCall) (closed .history) true (accepted closeCall (r .reached) (record { takes = tt; is = refl }) close-accepted) in
           let g : verdictsGiven (r .calls ++ (closeCall ∷ [])) ≡ verdictsGiven (r .calls) ++ us = verdicts-snoc (r .calls) closeCall in
           let t : statesFed (r .calls ++ (closeCall ∷ [])) ≡ fed = states-snoc (r .calls) closeCall ∙ rw (eq-eqb (closed .answer .number) 0 close-accepted) (append-nil fed) in
           let v : verdictsGiven (r .calls) ++ us ≡ ticks (verdictOf m fed) (length fed) = sym g ∙ c .exact ∙ rw t in

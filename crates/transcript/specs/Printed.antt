@@ -11,8 +11,9 @@ use Rattle.lists.specs.Choice.{pick}
 use Rattle.lists.specs.Sequence.{ticks}
 use Rattle.table.specs.declared.Rule.{Rule}
 use Rattle.session.specs.declared.Session.{Session}
-use Rattle.mission.specs.Calls.{Call, Calls, statesFed, verdictsGiven}
-use Rattle.mission.specs.Mission.{readTable, Start, sessionOf, startDelay, verdictOf}
+use Rattle.acts.specs.World.{wide}
+use Rattle.mission.specs.Calls.{asWide, Call, Calls, statesFed, verdictsGiven}
+use Rattle.mission.specs.Mission.{readTable, Start, openedAs, startDelay, verdictOf}
 use Rattle.lines.specs.declared.Line.{Line}
 use Rattle.lines.specs.Lines.{Parsed, state, bad, parsedLines, parsedFrom}
 use Rattle.rows.specs.Rows.{rowsNamed, badLine, feedLine}
@@ -72,7 +73,7 @@ module _ (m : Start) where
   -- in the block, and the tick of the next verdict; and whether the last block was fed
   pub record Running (last : Bool) (read shown : List ℕ) (s : Session) (h : List ℕ) (line : Line) (waiting : List ℕ) (tick : ℕ) : Type 0 where
     pub calls : List Call
-    pub reached : Calls (sessionOf m) (m .history) calls s h false
+    pub reached : Calls (openedAs wide m) (m .history) calls (asWide s) h false
     pub rows : shown ≡ rowsNamed ruleName 0 (verdictsGiven calls)
     pub next : tick ≡ length (verdictsGiven calls)
     pub blocks : last ≡ false → length (statesFed calls) % maxBlock ≡ 0

@@ -3,17 +3,18 @@ use Prim.Native.Nat.{ℕ, suc, _+_, _-_, _≤_, _<_, min}
 use native.Mathlib.Nat.{add-assoc}
 use native.Mathlib.Omega.{arith}
 use mathlib.Core.Path.{_≡_, refl, sym, ap, subst, _∙_}
-use mathlib.Core.Bool.{Bool, true, false, not, _||_, false≢true, true≢false}
+use mathlib.Core.Bool.{Bool, true, false, not, false≢true, true≢false}
 use mathlib.Core.List.{List, [], _∷_, _++_, map, append-assoc, append-nil}
-use borrow.Author.Tests.{le-ltb, lt-leb, eq-eqb, ltb-false}
-use lib.Dec.{eqb, ltb}
+use borrow.Author.Tests.{le-ltb, lt-leb, eq-eqb}
+use lib.Dec.{eqb}
 use lib.ListN.{length, getD, take, drop, length-append, length-drop, length-map, List·getD-map}
 use lib.Seq.{take-add, take-all, sets, sets-eq, length-take-le, take-append-seam, length-sets}
-use Rattle.lists.specs.Choice.{pick}
+use Rattle.limits.specs.Limits.{maxSeen}
 use Rattle.lists.specs.Sequence.{ticks}
 use Rattle.lists.specs.Bits.{bitAt}
 use Rattle.session.specs.declared.Answer.{Answer}
 use Rattle.session.specs.Session.{Effect, opening, fed, feeding, closing, delayOf, unfit}
+use Rattle.session.proofs.Answers.{feed-fits}
 use Rattle.session.proofs.Effects.{feed-accepted, close-accepted as close-is}
 use Rattle.table.specs.declared.Table.{Table}
 use Rattle.table.specs.declared.Rule.{Rule}
@@ -29,25 +30,18 @@ use Rattle.lines.specs.declared.Line.{Line}
 use Rattle.lines.specs.declared.Filled.{Filled}
 use Rattle.lines.specs.Lines.{empty, Filling, filling, filledFrom}
 use Rattle.lines.proofs.Laws.{fill-stops, fill-newline}
-use Rattle.rows.specs.Rows.{Put, rowsNamed, fitting, badLine, feedLine}
+use Rattle.rows.specs.Rows.{Put, rowsNamed, maxRows, maxTick, fitting, badLine, feedLine}
 use Rattle.rows.proofs.Laws.{put-bytes}
 use Rattle.transcript.specs.Printed.{nameIn, ruleName, printed, Running, Stopped}
-use Rattle.transcript.proofs.Steps.{running-begin, newline, few, delay-short, running-lines, stopped-bad, running-fed, stopped-fed, close-accepted, printed-all}
+use Rattle.transcript.proofs.Steps.{running-begin, newline, ticks-within, delay-short, running-lines, stopped-bad, running-fed, stopped-fed, close-accepted, printed-all}
 use Rattle.watch.specs.declared.Progress.{Progress}
 use Rattle.watch.specs.declared.StepAnswer.{StepAnswer}
 use Rattle.watch.specs.Steps.{Runs, Follows, Begins, Ready, Fed, Steps, Closes, Passed, Consumed, Completed}
 
 -- rows that fit, at the start of the text
-fitting-is : (name tick : ℕ) (words : List ℕ) (count : ℕ) → count ≤ 4096 → tick ≤ 4294967295 → fitting name tick words count ≡ rowsNamed name tick (ticks (bitAt words) count)
-fitting-is name tick words count h k = rw (le-ltb 4096 count h, le-ltb 18446744073709551615 (tick + count) (omega arith))
-
--- no row of a feed's refusals fits, so the last does not
-last-test : (p q r s : Bool) → _≡_ {A = ℕ} (pick p 25 (pick q 22 (pick r 23 (pick s 24 0)))) 0 → s ≡ false
-last-test true q r s e = absurd (omega arith)
-last-test false true r s e = absurd (omega arith)
-last-test false false true s e = absurd (omega arith)
-last-test false false false true e = absurd (omega arith)
-last-test false false false false e = refl
+fitting-is : (name tick : ℕ) (words : List ℕ) (count : ℕ) → count ≤ maxRows → tick + count ≤ maxTick
+    → fitting name tick words count ≡ rowsNamed name tick (ticks (bitAt words) count)
+fitting-is name tick words count h k = rw (le-ltb maxRows count h, le-ltb maxTick (tick + count) k)
 
 -- ---- the start
 first-of : (xs : List ℕ) (a b : ℕ) → 0 < length xs → getD xs 0 a ≡ getD xs 0 b
@@ -101,7 +95,7 @@ module _ (t : Table) (s : Simplified) (promised : Promised t s) (d : Rule) where
 -- ---- a feed
 module _ (p : Progress) (at : ℕ) (h block x o : List ℕ) (a : Answer) (h' x' o' text text' : List ℕ) (used : ℕ)
     (is : record { answer = a; history = h'; scratch = x'; out = o' } ≡ feeding (p .session) (take (p .count) block) h x o)
-    (fits : p .count ≤ 1024) (ticked : p .tick ≤ p .session .seen) (size : length block ≡ 1024) (counted : p .session .seen ≤ 4294967295)
+    (fits : p .count ≤ 1024) (ticked : p .tick ≤ p .session .seen) (size : length block ≡ 1024)
     (hh : 4095 ≤ length h) (hx : 5280 ≤ length x) (ho : 16 ≤ length o) where
   abbrev E : Effect
   E = feeding (p .session) (take (p .count) block) h x o
@@ -122,12 +116,12 @@ module _ (p : Progress) (at : ℕ) (h block x o : List ℕ) (a : Answer) (h' x' 
     right = λ m read shown runs. record {
       onward = λ e. absurd (false≢true e);
       ended = λ e. (let q : E .answer .number ≡ a .number = ap (λ (y : Effect). y .answer .number) (sym is) in
-          rw (put-bytes put, ← q) (stopped-fed m (runs .0) counted x o hh hx ho refl (λ z. n (sym q ∙ z))));
+          rw (put-bytes put, ← q) (stopped-fed m (runs .0) x o hh hx ho refl (λ z. n (sym q ∙ z))));
     };
   }
 
   accepted : a .number ≡ 0 → record { answer = a; history = h'; scratch = x'; out = o' } ≡ fed (p .session) (take (p .count) block) h x o
-  accepted n = is ∙ feed-accepted (p .session) h x o (take (p .count) block) (ap (λ (y : Effect). y .answer .number) (sym is) ∙ n) .0
+  accepted n = is ∙ feed-accepted (p .session) h x o maxSeen (take (p .count) block) (ap (λ (y : Effect). y .answer .number) (sym is) ∙ n) .0
 
   count-is : a .number ≡ 0
       → a .count ≡ (p .session .seen + length (take (p .count) block) - delayOf (p .session)) - (p .session .seen - delayOf (p .session))
@@ -136,16 +130,14 @@ module _ (p : Progress) (at : ℕ) (h block x o : List ℕ) (a : Answer) (h' x' 
   seen-then : a .number ≡ 0 → a .session .seen ≡ p .session .seen + length (take (p .count) block)
   seen-then n = ap (λ (z : Effect). z .answer .session .seen) (accepted n)
 
-  seen-fits : a .number ≡ 0 → p .session .seen + length (take (p .count) block) ≤ 4294967295
+  seen-fits : a .number ≡ 0 → p .session .seen + length (take (p .count) block) ≤ maxSeen
   seen-fits n =
-      let q = feed-accepted (p .session) h x o (take (p .count) block) (ap (λ (y : Effect). y .answer .number) (sym is) ∙ n) .1 in
-      ltb-false 4294967295 _
-      (last-test (unfit (p .session)) (ltb 1024 (length (take (p .count) block))) (ltb (length h) 4095 || ltb (length x) 5280 || ltb (length o) 16)
-      (ltb 4294967295 (p .session .seen + length (take (p .count) block))) q)
+      let q = feed-accepted (p .session) h x o maxSeen (take (p .count) block) (ap (λ (y : Effect). y .answer .number) (sym is) ∙ n) .1 in
+      feed-fits maxSeen (unfit (p .session)) (p .session .seen) (length (take (p .count) block)) (length h) (length x) (length o) q .count
 
-  -- ticks stay far below 64 bits
-  pub count-few : a .number ≡ 0 → p .tick + a .count ≤ 4294968319
-  count-few n = omega (arith, count-is n, waits, fits, ticked, counted)
+  -- no tick passes the limit of the count
+  pub count-few : a .number ≡ 0 → p .tick + a .count ≤ maxSeen
+  count-few n = omega (arith, count-is n, ticked, seen-fits n)
 
   pub fed-accepted : a .number ≡ 0 → Put text 0 (fitting (p .name) (p .tick) o' (a .count)) text' used
       → Fed p at h block h' text' (record {
@@ -157,11 +149,11 @@ module _ (p : Progress) (at : ℕ) (h block x o : List ℕ) (a : Answer) (h' x' 
       let q : E .answer .number ≡ 0 = ap (λ (y : Effect). y .answer .number) (sym is) ∙ n in
       let k = count-is n in
       let s = seen-then n in
-      let w = put-bytes put ∙ fitting-is (p .name) (p .tick) o' (a .count) (omega (arith, k, waits, fits)) (omega (arith, ticked, counted)) in
+      let w = put-bytes put ∙ fitting-is (p .name) (p .tick) o' (a .count) (omega (arith, k, waits, fits)) (count-few n) in
       record {
         place = refl;
         line = refl;
-        ready = λ e. (refl, record { room = omega arith; ticks = omega (arith, k, s, ticked); counted = omega (arith, s, seen-fits n) });
+        ready = λ e. (refl, record { room = omega arith; ticks = omega (arith, k, s, ticked) });
         right = λ m read shown runs. record {
           onward = λ e. (
             rw (w, ← waits, runs .1)
@@ -169,7 +161,7 @@ module _ (p : Progress) (at : ℕ) (h block x o : List ℕ) (a : Answer) (h' x' 
                 (λ (z : Effect). Running m (not (eqb (length (take (p .count) block)) 1024)) read
                 (shown ++ rowsNamed (ruleName m) (p .tick) (ticks (bitAt (z .out)) (z .answer .count)))
                 (z .answer .session) (z .history) (p .line) [] (p .tick + z .answer .count))
-                (sym is) (running-fed m (runs .0) counted x o hh hx ho refl q)),
+                (sym is) (running-fed m (runs .0) x o hh hx ho refl q)),
             runs .1,
           );
           ended = λ e. absurd (true≢false e);
@@ -179,23 +171,23 @@ module _ (p : Progress) (at : ℕ) (h block x o : List ℕ) (a : Answer) (h' x' 
 -- ---- the close
 module _ (p : Progress) (h x o : List ℕ) (a : Answer) (x' o' : List ℕ)
     (is : record { answer = a; history = h; scratch = x'; out = o' } ≡ closing (p .session) h x o)
-    (counted : p .session .seen ≤ 4294967295) (hh : 4095 ≤ length h) (hx : 5280 ≤ length x) (ho : 64 ≤ length o) where
+    (hh : 4095 ≤ length h) (hx : 5280 ≤ length x) (ho : 64 ≤ length o) where
   same-number : closing (p .session) h x o .answer .number ≡ a .number
   same-number = ap (λ (y : Effect). y .answer .number) (sym is)
 
   pub close-never : (text : List ℕ) → (a .number ≡ 0 → ⊥) → Closes p h text 0
-  close-never text n m last read shown block runs d z = absurd (n (sym same-number ∙ close-accepted m (runs .0) counted x o hh hx ho))
+  close-never text n m last read shown block runs d z = absurd (n (sym same-number ∙ close-accepted m (runs .0) x o hh hx ho))
 
   pub close-always : (text text' : List ℕ) (used : ℕ) → Put text 0 (fitting (p .name) (p .tick) o' (a .count)) text' used → Closes p h text' used
   close-always text text' used put m last read shown block runs d z =
-      let q = close-accepted m (runs .0) counted x o hh hx ho in
+      let q = close-accepted m (runs .0) x o hh hx ho in
       let y = is ∙ close-is (p .session) h x o q .0 in
       let k : a .count ≡ min (p .session .seen) (delayOf (p .session)) = ap (λ (e : Effect). e .answer .count) y in
       let short : delayOf (p .session) ≤ 4095 = delay-short m (runs .0) in
-      let w = put-bytes put ∙ fitting-is (p .name) (p .tick) o' (a .count) (omega (arith, k, short)) (omega (arith, few m (runs .0), counted)) in
+      let w = put-bytes put ∙ fitting-is (p .name) (p .tick) o' (a .count) (omega (arith, k, short)) (rw k (ticks-within m (runs .0))) in
       rw (w, runs .1)
       (subst (λ (e : Effect). printed m read ≡ shown ++ rowsNamed (ruleName m) (p .tick) (ticks (bitAt (e .out)) (e .answer .count))) (sym is)
-      (printed-all m (runs .0) counted x o hh hx ho d (rw z refl)))
+      (printed-all m (runs .0) x o hh hx ho d (rw z refl)))
 
 -- ---- a step
 module _ (p : Progress) (part : List ℕ) (at : ℕ) (h block : List ℕ) (ready : Ready p) (size : length block ≡ 1024) where
@@ -265,7 +257,7 @@ module _ (p : Progress) (part : List ℕ) (at : ℕ) (h block : List ℕ) (ready
           (subst (λ (k : ℕ). Stopped m (read ++ take (f .used) (drop at part)) (shown ++ badLine (p .session .seen + (k + length (f .states)) + 1))) waiting
           (subst (λ (n : ℕ). filling n (p .line) (drop at part) .isBad ≡ true → Stopped m (read ++ take (filling n (p .line) (drop at part) .used) (drop at part))
           (shown ++ badLine (p .session .seen + (length (take (p .count) block) + length (filling n (p .line) (drop at part) .states)) + 1)))
-          (sym room) (stopped-bad m (runs .0) (ready .counted) refl (drop at part)) e));
+          (sym room) (stopped-bad m (runs .0) refl (drop at part)) e));
     };
   }
 
@@ -274,7 +266,7 @@ module _ (p : Progress) (part : List ℕ) (at : ℕ) (h block : List ℕ) (ready
   step-part text e lt = record {
     further = further;
     newline = gone;
-    ready = λ g. record { room = lt; ticks = ready .ticks; counted = ready .counted };
+    ready = λ g. record { room = lt; ticks = ready .ticks };
     right = λ m read shown runs. record {
       onward = λ g. rw (took, append-nil shown) (lines-run e m read shown runs);
       ended = λ g. absurd (true≢false g);

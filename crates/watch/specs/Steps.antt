@@ -5,7 +5,7 @@ use mathlib.Core.Bool.{Bool, true, false, not}
 use mathlib.Core.List.{List, [], _∷_, _++_}
 use lib.Dec.{eqb}
 use lib.ListN.{length, take, drop}
-use Rattle.limits.specs.Limits.{maxBlock, maxSeen}
+use Rattle.limits.specs.Limits.{maxBlock}
 use Rattle.table.specs.declared.Table.{Table}
 use Rattle.book.specs.Entries.{Bytes}
 use Rattle.book.specs.Reading.{reading}
@@ -41,7 +41,6 @@ Begins t p = (book : List ℕ) → Bytes book → reading book .number ≡ 0 →
 pub record Ready (p : Progress) : Type 0 where
   pub room : p .count < maxBlock
   pub ticks : p .tick ≤ p .session .seen
-  pub counted : p .session .seen ≤ maxSeen
 
 -- a feed of the states that wait: h and block are what history and block held, h' and text what history and text hold then
 pub record Fed (p : Progress) (at : ℕ) (h block h' text : List ℕ) (r : StepAnswer) : Type 0 where

@@ -15,7 +15,7 @@ ghost use mathlib.Core.Path.{_≡_};
 ghost use mathlib.Core.Bool.{false};
 ghost use Prim.Native.Nat.{_≤_, _<_};
 ghost use lib.ListN.{length};
-ghost use Rattle.limits.specs.Limits.{maxBlock, maxSeen};
+ghost use Rattle.limits.specs.Limits.{maxBlock};
 ghost use Rattle.watch.specs.Steps.{Ready, ReadyIfGoing, Begins, Fed, Steps, Closes, Consumed, Completed};
 
 // The room for a book has a byte more than the longest, to show a longer one; a count above it stands for a book that cannot be read.
@@ -60,7 +60,7 @@ fn step(
     let rest = f.line;
     let session = p.session;
     if f.bad {
-        let used = rows::put_bad_line(text, session.seen as u64, f.count as u64 + 1);
+        let used = rows::put_bad_line(text, session.seen, f.count as u64 + 1);
         return StepAnswer {
             progress: Progress {
                 session,
@@ -102,7 +102,7 @@ fn feed(
     out: &mut [u64; CLOSE_WORDS],
     text: &mut [u8; TEXT_BYTES],
 ) -> StepAnswer
-    requires { ⌜ (p .count ≤ maxBlock) × (p .tick ≤ p .session .seen) × (p .session .seen ≤ maxSeen) × (length (now block) ≡ maxBlock) ⌝ }
+    requires { ⌜ (p .count ≤ maxBlock) × (p .tick ≤ p .session .seen) × (length (now block) ≡ maxBlock) ⌝ }
     ensures { λ r. ⌜ Fed p at (now (history .entry)) (now (block .entry)) (now (history .exit)) (now (text .exit)) r ⌝ }
 {
     let session = p.session;
@@ -147,7 +147,6 @@ fn close(
     out: &mut [u64; CLOSE_WORDS],
     text: &mut [u8; TEXT_BYTES],
 ) -> usize
-    requires { ⌜ p .session .seen ≤ maxSeen ⌝ }
     ensures { λ r. ⌜ Closes p (now (history .entry)) (now (text .exit)) r ⌝ }
 {
     let session = p.session;
@@ -217,7 +216,8 @@ fn consume(
     p
 }
 
-// All of standard input. A proved loop has to end, so it counts its reads down from a number that no run uses up.
+// All of standard input. A proved loop has to end, so it counts its reads, up to 2^64 - 1 rounds of 2^64 - 1: more than any mission has, since a state
+// takes 11 bytes at most and a read gives one at least.
 fn run(
     first: Progress,
     block: &mut [u32],
@@ -231,8 +231,9 @@ fn run(
 {
     let mut buf = io::large_buffer();
     let mut p = first;
-    let mut turns = u64::MAX;
-    while turns > 0 {
+    let mut rounds = u64::MAX;
+    let mut reads = 0;
+    while rounds > 0 {
         let got = libc::read(STDIN_FILENO, &mut buf);
         if got < 0 {
             os::fail(b"standard input");
@@ -246,7 +247,9 @@ fn run(
         if !p.going {
             return p;
         }
-        turns -= 1;
+        let next = reads + 1;
+        reads = next % u64::MAX;
+        rounds -= next / u64::MAX;
     }
     p
 }

@@ -1,4 +1,4 @@
--- The table, then three numbers, each over what was written before. Assumes nothing.
+-- The table, then two numbers, each over what was written before. Assumes nothing.
 use borrow.Author.Needs.{needs}
 use Rattle.flat.specs.Sessions.{sessionWritten}
 use Rattle.flat.proofs.write_session.Statement.{statement}
@@ -9,4 +9,4 @@ unfolding sessionWritten
 returns c = cc
 
 pub write-session-spec : {M : Type 1} → statement M
-write-session-spec = tie.close (tie.spec (search needs) (search needs) (search needs) (search needs) (search needs) returns)
+write-session-spec = tie.close (tie.spec (search needs) (search needs) (search needs) (search needs) returns)

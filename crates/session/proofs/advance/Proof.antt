@@ -13,7 +13,7 @@ abbrev entry : tie.After-t → tie.Start
 entry c = c .before .before .before .before .before
 
 abbrev start : tie.After-lesser → tie.Start
-start c = entry (c .before .before)
+start c = entry (c .before)
 
 abbrev counted : tie.After-write-verdicts → tie.After-over2
 counted c = c .before .before .before .before .before
@@ -22,7 +22,7 @@ abbrev written : tie.After-lesser2 → tie.After-write-verdicts
 written c = c .before .before .before .before .before .before
 
 after : tie.Need-add-after
-after c = let s = entry (c .before) in omega (arith, s .pre .few, s .pre .seen)
+after c = let s = entry c in omega (arith, s .pre .few, s .pre .seen)
 
 count : tie.Need-sub-count
 count c =
@@ -57,12 +57,6 @@ keeps c κs =
     let q : c .lesser2 .result ≡ min (a .s .seen + length (a .block .now)) (a .d) = c .lesser2 .ensures in
     (omega (arith, p, q), omega (arith, p, q), omega (arith, q), f, omega arith)
 
-fits : tie.Need-cast-with-seen
-fits c =
-    let k = c .before .before in
-    let l = counted (written (k .before)) .before .before in
-    omega (arith, start l .pre .seen)
-
 returns : tie.Need-returns
 returns c =
     let k = c .before .before .before in
@@ -76,5 +70,5 @@ pub advance-spec : {M : Type 1} → statement M
 advance-spec =
     tie.close
     (tie.spec (λ c. omega (arith, fit-rule (entry c .pre .fit))) (λ c. fit-rule (entry c .pre .fit))
-    (λ c. omega (arith, fit-node (entry c .pre .fit))) (search needs) after (search needs) (search needs) (search needs) count (search needs) (search needs) end writes
-    (search needs) keeps fits (search needs) (search needs) (search needs) (search needs) returns)
+    (λ c. omega (arith, fit-node (entry c .pre .fit))) after (search needs) (search needs) (search needs) count (search needs) (search needs) end writes
+    (search needs) keeps (search needs) (search needs) (search needs) (search needs) returns)

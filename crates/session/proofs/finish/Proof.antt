@@ -9,7 +9,7 @@ use Rattle.session.proofs.finish.Statement.{statement}
 use Rattle.session.proofs.finish.Tie as tie
 
 abbrev start : tie.After-lesser → tie.Start
-start c = c .before .before .before .before .before .before
+start c = c .before .before .before .before .before
 
 end : tie.Need-part-write-verdicts-end
 end c =
@@ -34,5 +34,5 @@ pub finish-spec : {M : Type 1} → statement M
 finish-spec =
     tie.close
     (tie.spec (λ c. omega (arith, fit-rule (c .before .before .before .before .pre .fit))) (λ c. fit-rule (c .before .before .before .before .pre .fit))
-    (λ c. omega (arith, fit-node (c .before .before .before .before .pre .fit))) (search needs) (search needs) (search needs) (search needs) end (search needs) (search needs) (search needs) writes
+    (λ c. omega (arith, fit-node (c .before .before .before .before .pre .fit))) (search needs) (search needs) (search needs) end (search needs) (search needs) (search needs) writes
     (search needs) (search needs) (search needs) returns)

@@ -1,6 +1,5 @@
 -- `watch::begin` meets its contract. Assumes nothing.
 use native.Mathlib.Omega.{arith}
-use Rattle.session.proofs.Effects.{opened-unseen}
 use Rattle.watch.proofs.Laws.{begins}
 use borrow.Author.Needs.{needs}
 use Rattle.watch.proofs.begin.Statement.{statement}
@@ -23,7 +22,7 @@ returns c =
     let o = c .before .before in
     let s = o .before .before .before .before in (
       rw (c .start .ensures, o .open .ensures) (begins (s .before .args .t) (s .simplify .result) (s .simplify .ensures) _),
-      record { room = omega arith; ticks = omega arith; counted = rw (o .open .ensures, opened-unseen (s .simplify .result .table) 0) (omega arith) },
+      record { room = omega arith; ticks = omega arith },
     )
 
 pub begin-spec : {M : Type 1} → statement M

@@ -31,7 +31,7 @@ returns c =
     let s = start (l .before) in
     let z = sizes (l .before) in
     let a = s .args in
-    close-never (a .p) (a .history .now) (a .scratch .now) (a .out .now) (l .close .result) _ _ (l .close .ensures) (s .pre) (z .0) (z .1) (z .2) [] (c .if1 .taken)
+    close-never (a .p) (a .history .now) (a .scratch .now) (a .out .now) (l .close .result) _ _ (l .close .ensures) (z .0) (z .1) (z .2) [] (c .if1 .taken)
 
 put-rows-requires : tie.Need-put-rows-requires
 put-rows-requires c κs = search needs
@@ -42,7 +42,7 @@ returns-2 c =
     let s = start (l .before) in
     let z = sizes (l .before) in
     let a = s .args in
-    close-always (a .p) (a .history .now) (a .scratch .now) (a .out .now) (l .close .result) _ _ (l .close .ensures) (s .pre) (z .0) (z .1) (z .2) _ _ _ (c .put-rows .ensures)
+    close-always (a .p) (a .history .now) (a .scratch .now) (a .out .now) (l .close .result) _ _ (l .close .ensures) (z .0) (z .1) (z .2) _ _ _ (c .put-rows .ensures)
 
 pub close-spec : {M : Type 1} → statement M
 close-spec = tie.close (tie.spec close-requires returns put-rows-requires returns-2)

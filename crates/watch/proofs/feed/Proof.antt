@@ -24,7 +24,7 @@ sizes c =
     (omega (arith, h), omega (arith, x), omega (arith, o))
 
 slice-aggregate-feed : tie.Need-slice-aggregate-feed
-slice-aggregate-feed c = sym (length-take-le _ _ (let s = c .before .before .before .before .pre in omega (arith, s .0, s .3)))
+slice-aggregate-feed c = sym (length-take-le _ _ (let s = c .before .before .before .before .pre in omega (arith, s .0, s .2)))
 
 feed-requires : tie.Need-feed-requires
 feed-requires c κs = search needs
@@ -40,7 +40,7 @@ returns c =
     let z = sizes (f .before) in
     let a = s .args in
     fed-refused (a .p) (a .at) (a .history .now) (a .block .now) (a .scratch .now) (a .out .now) (f .feed .result) _ _ _ (a .text .now) (c .put-feed .last .0) (c .put-feed .result)
-    (f .feed .ensures) (s .pre .0) (s .pre .1) (s .pre .3) (s .pre .2) (z .0) (z .1) (z .2) (t .if1 .taken) (c .put-feed .ensures)
+    (f .feed .ensures) (s .pre .0) (s .pre .1) (s .pre .2) (z .0) (z .1) (z .2) (t .if1 .taken) (c .put-feed .ensures)
 
 put-rows-requires : tie.Need-put-rows-requires
 put-rows-requires c κs = search needs
@@ -52,7 +52,7 @@ add-t28 c =
     let s = start (f .before) in
     let z = sizes (f .before) in
     let a = s .args in
-    search (needs, count-few (a .p) 0 (a .history .now) (a .block .now) (a .scratch .now) (a .out .now) (f .feed .result) _ _ _ [] [] 0 (f .feed .ensures) (s .pre .0) (s .pre .1) (s .pre .3) (s .pre .2) (z .0) (z .1) (z .2) (e .if1 .left))
+    search (needs, count-few (a .p) 0 (a .history .now) (a .block .now) (a .scratch .now) (a .out .now) (f .feed .result) _ _ _ [] [] 0 (f .feed .ensures) (s .pre .0) (s .pre .1) (s .pre .2) (z .0) (z .1) (z .2) (e .if1 .left))
 
 returns-2 : tie.Need-returns-2
 returns-2 c =
@@ -63,7 +63,7 @@ returns-2 c =
     let z = sizes (f .before) in
     let a = s .args in
     fed-accepted (a .p) (a .at) (a .history .now) (a .block .now) (a .scratch .now) (a .out .now) (f .feed .result) _ _ _ (a .text .now) (p .last .0) (p .result)
-    (f .feed .ensures) (s .pre .0) (s .pre .1) (s .pre .3) (s .pre .2) (z .0) (z .1) (z .2) (e .if1 .left) (p .ensures)
+    (f .feed .ensures) (s .pre .0) (s .pre .1) (s .pre .2) (z .0) (z .1) (z .2) (e .if1 .left) (p .ensures)
 
 pub feed-spec : {M : Type 1} → statement M
 feed-spec =

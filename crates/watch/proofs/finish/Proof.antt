@@ -42,7 +42,7 @@ feed-requires c κs =
     let e = going c in
     let l = e .before .before .before .before in
     let r = l .last-line .ensures .ready (not-false _ (e .if1 .left)) in
-    (omega (arith, r .room), r .ticks, r .counted, kept l)
+    (omega (arith, r .room), r .ticks, kept l)
 
 write-requires : tie.Need-write-requires
 write-requires c κs = search needs

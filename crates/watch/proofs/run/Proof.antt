@@ -1,5 +1,5 @@
 -- `watch::run` meets its contract. The invariant: the next part may be read. Assumes nothing.
-use Prim.Native.Nat.{ℕ}
+use Prim.Native.Nat.{ℕ, _-_, _*_, _<_}
 use native.Mathlib.Omega.{arith}
 use mathlib.Core.Path.{_≡_, sym, _∙_}
 use mathlib.Core.Bool.{false≢true}
@@ -11,10 +11,11 @@ use Rattle.watch.proofs.run.Statement.{statement}
 use Rattle.watch.proofs.run.Tie as tie
 
 abbrev Inv-loop : tie.InvT-loop
-Inv-loop block₀ history₀ scratch₀ out₀ text₀ buf₀ p₀ turns₀ t12 block history scratch out text buf p turns = Ready p × (length block ≡ 1024) × (65536 ≡ length buf)
+Inv-loop block₀ history₀ scratch₀ out₀ text₀ buf₀ p₀ rounds₀ reads₀ t13 block history scratch out text buf p rounds reads =
+    Ready p × (length block ≡ 1024) × (65536 ≡ length buf) × (reads < 18446744073709551615)
 
 abbrev μ-loop : tie.MeasureT-loop
-μ-loop block₀ history₀ scratch₀ out₀ text₀ buf₀ p₀ turns₀ t12 block history scratch out text buf p turns = turns
+μ-loop block₀ history₀ scratch₀ out₀ text₀ buf₀ p₀ rounds₀ reads₀ t13 block history scratch out text buf p rounds reads = 18446744073709551615 * rounds - reads
 
 -- places on the way: the entry, seen from the loop; a turn, seen from what was read; the bytes read, seen from their count; the count, seen from what
 -- was consumed
@@ -99,16 +100,23 @@ same-length-3 c =
 returns-3 : tie.Need-returns-3 Inv-loop μ-loop
 returns-3 c = consumed (c .before) .consume .ensures .ready
 
-sub-turns : tie.Need-sub-turns Inv-loop μ-loop
-sub-turns c = search (needs, turn (got (counted (consumed (c .before)))) .loop-test .taken)
+add-next : tie.Need-add-next Inv-loop μ-loop
+add-next c = search (needs, turn (got (counted (consumed (c .before)))) .before .loop .inv .3)
+
+sub-rounds : tie.Need-sub-rounds Inv-loop μ-loop
+sub-rounds c =
+    let l = turn (got (counted (consumed (c .before)))) in
+    omega (arith, l .loop-test .taken, l .before .loop .inv .3)
 
 loop-less : tie.Need-loop-less Inv-loop μ-loop
-loop-less c = omega (arith, turn (got (counted (consumed (c .before)))) .loop-test .taken)
+loop-less c =
+    let l = turn (got (counted (consumed (c .before)))) in
+    omega (arith, l .loop-test .taken, l .before .loop .inv .3)
 
 loop-again : tie.Need-loop-again Inv-loop μ-loop
 loop-again c =
     let w = consumed (c .before) in
-    (w .consume .ensures .ready (not-false _ (c .if3 .left)), kept w, kept-buffer (got (counted w) .before))
+    (w .consume .ensures .ready (not-false _ (c .if3 .left)), kept w, kept-buffer (got (counted w) .before), omega arith)
 
 same-length-4 : tie.Need-same-length-4 Inv-loop μ-loop
 same-length-4 c = same (c .before)
@@ -140,7 +148,8 @@ run-spec =
     consume-requires
     same-length-3
     returns-3
-    sub-turns
+    add-next
+    sub-rounds
     loop-less
     loop-again
     same-length-4

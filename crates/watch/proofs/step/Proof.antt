@@ -27,7 +27,7 @@ fill-requires : tie.Need-fill-requires
 fill-requires c κs = search needs
 
 add-put-bad-line : tie.Need-add-put-bad-line
-add-put-bad-line c = search (needs, few (filled (c .before .before .before)))
+add-put-bad-line c = search (needs, few (filled (c .before .before)))
 
 put-bad-line-requires : tie.Need-put-bad-line-requires
 put-bad-line-requires c κs = search needs
@@ -37,7 +37,7 @@ same-length c = search needs
 
 returns : tie.Need-returns
 returns c =
-    let t = c .before .before .before in
+    let t = c .before .before in
     let f = filled (t .before) in
     let s = start f in
     let a = s .args in
@@ -62,7 +62,7 @@ feed-requires c κs =
     let s = start f in
     let a = s .args in
     let q = f .fill in
-    (few f, s .pre .0 .ticks, s .pre .0 .counted, block-size (a .p) (a .part .now) (a .at) (a .history .now) (a .block .now) (s .pre .0) (s .pre .1) (q .result) (q .last .1 .1 .1 .0) (q .ensures .0) (q .ensures .1))
+    (few f, s .pre .0 .ticks, block-size (a .p) (a .part .now) (a .at) (a .history .now) (a .block .now) (s .pre .0) (s .pre .1) (q .result) (q .last .1 .1 .1 .0) (q .ensures .0) (q .ensures .1))
 
 same-length-3 : tie.Need-same-length-3
 same-length-3 c = search needs
@@ -82,7 +82,6 @@ step-spec =
     tie.close
     (tie.spec
     fill-requires
-    (search needs)
     add-put-bad-line
     put-bad-line-requires
     same-length

@@ -3,6 +3,7 @@ use mathlib.Core.Path.{_≡_, sym, ap, _∙_}
 use mathlib.Core.Bool.{Bool}
 use borrow.Author.Needs.{needs}
 use lib.ListN.{length}
+use Rattle.limits.specs.Limits.{maxSeen}
 use Rattle.lists.specs.Choice.{first}
 use Rattle.session.specs.Session.{unfit, feedRows, feedNumber}
 use Rattle.session.proofs.Answers.{unfit-is, fit-is, feed-fits, fed-refused, fed-accepted}
@@ -20,11 +21,11 @@ abbrev advanced : tie.After-slice-known6 → tie.After-advance
 advanced c = c .before .before .before .before .before .before
 
 number : (c : tie.After-feed-number) → c .feed-number .result
-    ≡ feedNumber (start c .args .self) (length (start c .args .block .now)) (length (start c .args .history .now)) (length (start c .args .scratch .now)) (length (start c .args .out .now))
+    ≡ feedNumber maxSeen (start c .args .self) (length (start c .args .block .now)) (length (start c .args .history .now)) (length (start c .args .scratch .now)) (length (start c .args .out .now))
 number c =
     let a = start c .args in
     c .feed-number .ensures
-    ∙ ap (λ (b : Bool). first (feedRows b (a .self .seen) (length (a .block .now)) (length (a .history .now)) (length (a .scratch .now)) (length (a .out .now))))
+    ∙ ap (λ (b : Bool). first (feedRows maxSeen b (a .self .seen) (length (a .block .now)) (length (a .history .now)) (length (a .scratch .now)) (length (a .out .now))))
     (unfit-is (a .self) (c .before .before .delay .ensures))
 
 returns : tie.Need-returns
@@ -37,7 +38,7 @@ ready c κs =
     let e = c .before .before .before .before in
     let n = e .before in
     let a = start n .args in
-    let f = feed-fits (unfit (a .self)) (a .self .seen) (length (a .block .now)) (length (a .history .now)) (length (a .scratch .now)) (length (a .out .now)) (sym (number n) ∙ e .if1 .left) in
+    let f = feed-fits maxSeen (unfit (a .self)) (a .self .seen) (length (a .block .now)) (length (a .history .now)) (length (a .scratch .now)) (length (a .out .now)) (sym (number n) ∙ e .if1 .left) in
     record { fit = fit-is (a .self) (n .before .before .delay .ensures) (f .fit) (f .history) (f .scratch); few = f .few; seen = f .count; out-words = f .out }
 
 returns-2 : tie.Need-returns-2

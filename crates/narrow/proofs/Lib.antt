@@ -1,0 +1,2 @@
+-- widening by its number
+pub mod Widening

@@ -1,0 +1,2 @@
+-- what widening answers
+pub mod Narrow
