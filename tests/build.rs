@@ -23,9 +23,9 @@ fn main() {
     std::fs::write(std::env::var("OUT_DIR").unwrap() + "/header.rs", modules).unwrap();
 }
 
-/// The name without its JUNTREAK_, if the value is a decimal number.
+/// The name without its JUNTREAK_, if the value is a decimal number, with or without a `u` behind it.
 fn constant<'a>(name: &'a str, value: &str) -> Option<(&'a str, u64)> {
-    Some((name.strip_prefix("JUNTREAK_")?, value.parse().ok()?))
+    Some((name.strip_prefix("JUNTREAK_")?, value.strip_suffix('u').unwrap_or(value).parse().ok()?))
 }
 
 /// A module of the constants, with a list of all.

@@ -11,7 +11,7 @@ pub const fn whole_words(n: usize) -> usize {
 
 /// Places in the bytes of a table and of a session.
 pub mod places {
-    use super::limits::TABLE_BYTES;
+    pub use super::limits::{RULE_NUMBER_AT, SEEN_AT};
 
     /// Node i, of 8 bytes.
     pub const fn node_at(i: usize) -> usize {
@@ -22,10 +22,4 @@ pub mod places {
     pub const fn rule_at(i: usize) -> usize {
         514 + 4 * i
     }
-
-    /// A session's rule number, of 4 bytes, behind its table.
-    pub const RULE_NUMBER_AT: usize = TABLE_BYTES;
-
-    /// The count of states that a session has seen, of 8 bytes.
-    pub const SEEN_AT: usize = RULE_NUMBER_AT + 4;
 }

@@ -1,8 +1,10 @@
 //! The proved library as Rust sees it (`library`), the limits and refusal numbers of its C header (`header`), models written from the
-//! documents alone (`model`, `known`, `typed`, `viable`, `written`, `program`), what the program rules tells (`message`), random input
-//! (`random`), where programs are (`place`) and how they are run (`spawn`). For the benchmarks (`bench`): the formulas (`formulas`), and what the library and the
-//! program are compared with (`naive`, `queue`, `twin`, `plain`, `plain_text`).
+//! documents alone (`model`, `known`, `typed`, `viable`, `written`, `program`), calls on sessions beside the model's (`compared`), what the
+//! program rules tells (`message`), random input (`random`), where programs are (`place`) and how they are run (`spawn`). For the benchmarks
+//! (`bench`): the formulas (`formulas`), and what the library and the program are compared with (`naive`, `queue`, `twin`, `plain`,
+//! `plain_text`).
 pub mod bench;
+pub mod compared;
 pub mod formulas;
 pub mod header;
 pub mod known;

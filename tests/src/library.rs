@@ -1,12 +1,13 @@
 //! Safe wrappers of the exported functions; include/juntreak.h declares the same.
-use crate::header::limits::{MAX_PARTS, SESSION_BYTES, TABLE_BYTES};
+use crate::header::limits::{MAX_PARTS, NARROW_BYTES, SESSION_BYTES, TABLE_BYTES};
 
 pub type TableBytes = [u8; TABLE_BYTES];
 pub type SessionBytes = [u8; SESSION_BYTES];
+pub type NarrowBytes = [u8; NARROW_BYTES];
 pub type Parts = [u8; MAX_PARTS];
 
 mod raw {
-    use super::{Parts, SessionBytes, TableBytes};
+    use super::{NarrowBytes, Parts, SessionBytes, TableBytes};
 
     extern "C" {
         pub fn juntreak_check_book(book: *const u8, n: usize) -> u32;
@@ -19,6 +20,7 @@ mod raw {
         pub fn juntreak_early(table: *const TableBytes, rule: u32, states: *const u32, n: usize, tick: usize, scratch: *mut u64, x: usize) -> u32;
         pub fn juntreak_simplify(table: *mut TableBytes) -> u32;
         pub fn juntreak_open(table: *const TableBytes, rule: u32, session: *mut SessionBytes) -> u32;
+        pub fn juntreak_widen(narrow: *const NarrowBytes, session: *mut SessionBytes) -> u32;
         pub fn juntreak_feed(session: *mut SessionBytes, block: *const u32, k: usize, history: *mut u32, h: usize, scratch: *mut u64, x: usize, out: *mut u64, o: usize) -> u64;
         pub fn juntreak_close(session: *mut SessionBytes, history: *const u32, h: usize, scratch: *mut u64, x: usize, out: *mut u64, o: usize) -> u64;
     }
@@ -78,6 +80,11 @@ pub fn simplify(table: &mut TableBytes) -> u32 {
 /// The number.
 pub fn open(table: &TableBytes, rule: u32, session: &mut SessionBytes) -> u32 {
     unsafe { raw::juntreak_open(table, rule, session) }
+}
+
+/// The number.
+pub fn widen(narrow: &NarrowBytes, session: &mut SessionBytes) -> u32 {
+    unsafe { raw::juntreak_widen(narrow, session) }
 }
 
 /// The number and the count.

@@ -1,7 +1,7 @@
 //! What the documents say, written plainly and without regard to speed: the reader of books, soundness, delays, splitting, verdicts, the laws of simplifying, and sessions.
 use crate::header::limits::{
-    CLOSE_WORDS, FEED_WORDS, HISTORY_WORDS, MAX_BLOCK, MAX_DELAY, MAX_INTERVAL, MAX_NAME, MAX_NODES, MAX_RECORDS, MAX_RULES, MAX_SEEN, MAX_SIGNAL, MAX_TRACE,
-    NODE_COUNT_AT, RECORD_BYTES, RULE_COUNT_AT, SCRATCH_WORDS, SESSION_BYTES, TABLE_BYTES,
+    CLOSE_WORDS, FEED_WORDS, HISTORY_WORDS, MAX_BLOCK, MAX_DELAY, MAX_INTERVAL, MAX_NAME, MAX_NARROW_SEEN, MAX_NODES, MAX_RECORDS, MAX_RULES, MAX_SEEN,
+    MAX_SIGNAL, MAX_TRACE, NARROW_BYTES, NODE_COUNT_AT, RECORD_BYTES, RULE_COUNT_AT, SCRATCH_WORDS, SESSION_BYTES, TABLE_BYTES,
 };
 use crate::header::places::{node_at, rule_at, RULE_NUMBER_AT, SEEN_AT};
 use crate::header::refusals::{
@@ -408,6 +408,23 @@ pub fn whole(table: &[u8; TABLE_BYTES], rule: u32, states: &[u32], scratch: &mut
     OK
 }
 
+/// The count of states that a session has: that of the library, or the narrow one of the library before it.
+#[derive(Clone, Copy, Debug, PartialEq, Eq)]
+pub enum Width {
+    Narrow,
+    Wide,
+}
+
+impl Width {
+    /// The largest count.
+    pub fn last(self) -> u64 {
+        match self {
+            Width::Narrow => MAX_NARROW_SEEN as u64,
+            Width::Wide => MAX_SEEN as u64,
+        }
+    }
+}
+
 #[derive(Clone, Debug, PartialEq, Eq)]
 pub struct Session {
     pub table: Table,
@@ -435,12 +452,12 @@ impl Session {
     }
 }
 
-/// What the interface's bytes say, if they are a session's.
-pub fn session(b: &[u8; SESSION_BYTES]) -> Option<Session> {
+/// What the interface's bytes say, if they are a session's of this width.
+pub fn session(width: Width, b: &[u8; SESSION_BYTES]) -> Option<Session> {
     let table = sound(b[..TABLE_BYTES].try_into().unwrap())?;
     let rule = u32::from_le_bytes(b[RULE_NUMBER_AT..SEEN_AT].try_into().unwrap());
     let seen = u64::from_le_bytes(b[SEEN_AT..].try_into().unwrap());
-    if rule as usize >= table.rules.len() || seen > MAX_SEEN as u64 {
+    if rule as usize >= table.rules.len() || seen > width.last() {
         return None;
     }
     Some(Session { table, rule, seen })
@@ -458,24 +475,28 @@ pub fn open(table: &[u8; TABLE_BYTES], rule: u32, session: &mut [u8; SESSION_BYT
     }
 }
 
+/// The number of a widening, and the session after it.
+pub fn widen(narrow: &[u8; NARROW_BYTES], session_bytes: &mut [u8; SESSION_BYTES]) -> u32 {
+    let Some(s) = session(Width::Narrow, narrow) else { return UNSOUND };
+    *session_bytes = s.bytes();
+    OK
+}
+
 /// The number and the count of a feed, and the session and buffers after it.
-pub fn feed(session_bytes: &mut [u8; SESSION_BYTES], block: &[u32], history: &mut [u32], scratch: &mut [u64], out: &mut [u64]) -> (u32, u32) {
-    let Some(mut s) = session(session_bytes) else { return (UNSOUND, 0) };
-    let k = block.len() as u64;
-    if k > MAX_BLOCK as u64 {
+pub fn feed(width: Width, session_bytes: &mut [u8; SESSION_BYTES], block: &[u32], history: &mut [u32], scratch: &mut [u64], out: &mut [u64]) -> (u32, u32) {
+    let Some(mut s) = session(width, session_bytes) else { return (UNSOUND, 0) };
+    if block.len() > MAX_BLOCK {
         return (STATES, 0);
     }
     if history.len() < HISTORY_WORDS || scratch.len() < SCRATCH_WORDS || out.len() < FEED_WORDS {
         return (BUFFER, 0);
     }
-    if s.seen + k > MAX_SEEN as u64 {
-        return (SEEN, 0);
-    }
+    let Some(after) = s.seen.checked_add(block.len() as u64).filter(|after| *after <= width.last()) else { return (SEEN, 0) };
     let d = s.delay();
     let trace: Vec<u32> = [&history[..s.held()], block].concat();
-    let count = ((s.seen + k).saturating_sub(d) - s.seen.saturating_sub(d)) as usize;
+    let count = (after.saturating_sub(d) - s.seen.saturating_sub(d)) as usize;
     write_verdicts(&mut out[..FEED_WORDS], &s.table.rule_verdicts(s.rule as usize, &trace)[..count]);
-    s.seen += k;
+    s.seen = after;
     let kept = s.held();
     history[..kept].copy_from_slice(&trace[trace.len() - kept..]);
     scratch[..SCRATCH_WORDS].fill(0);
@@ -484,8 +505,8 @@ pub fn feed(session_bytes: &mut [u8; SESSION_BYTES], block: &[u32], history: &mu
 }
 
 /// The number and the count of a close, and the session and buffers after it.
-pub fn close(session_bytes: &mut [u8; SESSION_BYTES], history: &[u32], scratch: &mut [u64], out: &mut [u64]) -> (u32, u32) {
-    let Some(mut s) = session(session_bytes) else { return (UNSOUND, 0) };
+pub fn close(width: Width, session_bytes: &mut [u8; SESSION_BYTES], history: &[u32], scratch: &mut [u64], out: &mut [u64]) -> (u32, u32) {
+    let Some(mut s) = session(width, session_bytes) else { return (UNSOUND, 0) };
     if history.len() < HISTORY_WORDS || scratch.len() < SCRATCH_WORDS || out.len() < CLOSE_WORDS {
         return (BUFFER, 0);
     }

@@ -19,7 +19,7 @@ fn state(line: &[u8]) -> Option<u32> {
     std::str::from_utf8(line).ok()?.parse().ok()
 }
 
-/// Everything that watch prints for the bytes of rules.bin and of standard input, of fewer than 2^32 lines (with more, a feed is
+/// Everything that watch prints for the bytes of rules.bin and of standard input, of fewer than 2^64 lines (with more, a feed is
 /// refused). The delay is that of the first rule in the
 /// simplified table: through it the simplifier decides how many verdicts precede a `bad line`, and nothing else here depends on it.
 pub fn expected(book: &[u8], input: &[u8], delay: usize) -> Vec<u8> {

@@ -2,7 +2,7 @@
 //! and checks the table, computes the nodes that are needed on 64-bit words in registers of 80, and clears the scratch. Its sessions
 //! parse and check the session's bytes at each call, refuse by the same numbers, and keep the history.
 use crate::header::limits::{
-    CLOSE_WORDS, FEED_WORDS, HISTORY_WORDS, MAX_BLOCK, MAX_DELAY, MAX_INTERVAL, MAX_NAME, MAX_NODES, MAX_RULES, MAX_SEEN, MAX_SIGNAL, MAX_TRACE, NODE_COUNT_AT,
+    CLOSE_WORDS, FEED_WORDS, HISTORY_WORDS, MAX_BLOCK, MAX_DELAY, MAX_INTERVAL, MAX_NAME, MAX_NODES, MAX_RULES, MAX_SIGNAL, MAX_TRACE, NODE_COUNT_AT,
     REGISTER_WORDS, RULE_COUNT_AT, SCRATCH_WORDS, SESSION_BYTES, TABLE_BYTES,
 };
 use crate::header::places::{node_at, rule_at, RULE_NUMBER_AT, SEEN_AT};
@@ -235,22 +235,19 @@ struct Session {
 impl Session {
     fn parse(b: &[u8; SESSION_BYTES]) -> Option<Session> {
         let rule = u32::from_le_bytes(b[RULE_NUMBER_AT..SEEN_AT].try_into().unwrap()) as usize;
-        let seen = u64::from_le_bytes(b[SEEN_AT..].try_into().unwrap());
-        if seen > MAX_SEEN as u64 {
-            return None;
-        }
+        let seen = u64::from_le_bytes(b[SEEN_AT..].try_into().unwrap()) as usize;
         let table = parse(b[..TABLE_BYTES].try_into().unwrap())?;
         let delays = sound(&table)?;
         if rule >= table.rule_count {
             return None;
         }
         let watched = table.rules[rule].watched as usize;
-        Some(Session { table, watched, delay: delays[watched] as usize, seen: seen as usize })
+        Some(Session { table, watched, delay: delays[watched] as usize, seen })
     }
 }
 
 fn put_seen(session: &mut [u8; SESSION_BYTES], seen: usize) {
-    session[SEEN_AT..SEEN_AT + 4].copy_from_slice(&(seen as u32).to_le_bytes());
+    session[SEEN_AT..].copy_from_slice(&(seen as u64).to_le_bytes());
 }
 
 /// The number.
@@ -285,10 +282,7 @@ pub fn feed(session: &mut [u8; SESSION_BYTES], block: &[u32], history: &mut [u32
     if history.len() < HISTORY_WORDS || scratch.len() < SCRATCH_WORDS || out.len() < FEED_WORDS {
         return (BUFFER, 0);
     }
-    let after = s.seen + block.len();
-    if after > MAX_SEEN {
-        return (SEEN, 0);
-    }
+    let Some(after) = s.seen.checked_add(block.len()) else { return (SEEN, 0) };
     let h = s.seen.min(s.delay);
     let count = after.saturating_sub(s.delay) - s.seen.saturating_sub(s.delay);
     judge(&s.table, s.watched, (&history[..h], block), count, scratch, out);

@@ -49,6 +49,13 @@ fn the_book_of_a_session_is_written_and_read_back() {
 }
 
 #[test]
+fn a_narrow_session_goes_on_beyond_its_count() {
+    let fed = "7 4294967292 0\n7 4294967293 1\n7 4294967294 1\n7 4294967295 1\n";
+    let closed = "7 4294967296 0\n7 4294967297 0\n7 4294967298 0\n";
+    assert_eq!(printed("widen"), format!("{fed}widened again: refused with 25\n{closed}"));
+}
+
+#[test]
 fn the_rows_are_those_worked_by_hand() {
     assert_eq!(printed("rows"), include_str!("../../examples/rows.txt"));
 }

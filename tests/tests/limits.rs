@@ -1,5 +1,5 @@
 //! The limits and refusal numbers: the documents' values in the C header, and the same names and values in the Rattle crates and in their specifications.
-use juntreak_tests::header::limits::{self, MAX_NODES, MAX_RULES, NODE_COUNT_AT, RULE_COUNT_AT, SESSION_BYTES, TABLE_BYTES};
+use juntreak_tests::header::limits::{self, MAX_NODES, MAX_RULES, NARROW_BYTES, NODE_COUNT_AT, RULE_COUNT_AT, SESSION_BYTES, TABLE_BYTES};
 use juntreak_tests::header::places::{node_at, rule_at, RULE_NUMBER_AT, SEEN_AT};
 use juntreak_tests::header::{refusals, values, NUMBERS};
 use std::collections::{BTreeMap, BTreeSet};
@@ -7,12 +7,13 @@ use std::collections::{BTreeMap, BTreeSet};
 type Constants = BTreeMap<String, u64>;
 
 /// Every constant of the header.
-const VALUES: [(&str, u64); 50] = [
+const VALUES: [(&str, u64); 54] = [
     ("RECORD_BYTES", 12),
     ("BOOK_BYTES", 3060),
     ("WRITTEN_BYTES", 876),
     ("TABLE_BYTES", 546),
     ("SESSION_BYTES", 558),
+    ("NARROW_BYTES", 558),
     ("HISTORY_WORDS", 4095),
     ("SCRATCH_WORDS", 5280),
     ("EARLY_SCRATCH_WORDS", 10560),
@@ -30,10 +31,13 @@ const VALUES: [(&str, u64); 50] = [
     ("MAX_STATE", 4_294_967_295),
     ("MAX_TRACE", 5120),
     ("MAX_BLOCK", 1024),
-    ("MAX_SEEN", 4_294_967_295),
+    ("MAX_SEEN", 18_446_744_073_709_551_615),
+    ("MAX_NARROW_SEEN", 4_294_967_295),
     ("MAX_DEPTH", 32),
     ("NODE_COUNT_AT", 0),
     ("RULE_COUNT_AT", 1),
+    ("RULE_NUMBER_AT", 546),
+    ("SEEN_AT", 550),
     ("OK", 0),
     ("LENGTH", 1),
     ("HEAD", 2),
@@ -61,7 +65,7 @@ const VALUES: [(&str, u64); 50] = [
 ];
 
 /// What the header's limits and refusals have beside those of the Rattle crates; its values are in C only.
-const IN_C_ONLY: [&str; 3] = ["NODE_COUNT_AT", "RULE_COUNT_AT", "OK"];
+const IN_C_ONLY: [&str; 5] = ["NODE_COUNT_AT", "RULE_COUNT_AT", "RULE_NUMBER_AT", "SEEN_AT", "OK"];
 
 fn constants(list: &[(&str, u64)]) -> Constants {
     list.iter().map(|(name, value)| (name.to_string(), *value)).collect()
@@ -166,10 +170,10 @@ fn the_specifications_have_the_same() {
     same("Numbers", specification(include_str!("../../crates/refusals/specs/Numbers.antt")), shared(refusals::ALL));
 }
 
-/// The places follow each other and fill the table and the session; no refusal number is beyond the counts by number.
+/// The places follow each other and fill the table and the session, a narrow one too; no refusal number is beyond the counts by number.
 #[test]
 fn places() {
     assert_eq!([NODE_COUNT_AT, RULE_COUNT_AT, node_at(0), rule_at(0), RULE_NUMBER_AT, SEEN_AT], [0, 1, 2, 514, 546, 550]);
-    assert_eq!([node_at(MAX_NODES), rule_at(MAX_RULES), SEEN_AT + 8], [rule_at(0), TABLE_BYTES, SESSION_BYTES]);
+    assert_eq!([node_at(MAX_NODES), rule_at(MAX_RULES), SEEN_AT + 8, SEEN_AT + 8], [rule_at(0), TABLE_BYTES, SESSION_BYTES, NARROW_BYTES]);
     assert!(refusals::ALL.iter().all(|(_, number)| *number < NUMBERS as u64));
 }

@@ -1,10 +1,12 @@
 //! What the benchmarks compare the library with: the queue-based monitor and the naive stream against the naive evaluator, the twin against the model.
 use juntreak_tests::formulas;
-use juntreak_tests::header::limits::{CLOSE_WORDS, FEED_WORDS, HISTORY_WORDS, MAX_BLOCK, MAX_DELAY, MAX_NODES, MAX_SEEN, SCRATCH_WORDS, SESSION_BYTES};
+use juntreak_tests::header::limits::{
+    CLOSE_WORDS, FEED_WORDS, HISTORY_WORDS, MAX_BLOCK, MAX_DELAY, MAX_NARROW_SEEN, MAX_NODES, MAX_SEEN, SCRATCH_WORDS, SESSION_BYTES,
+};
 use juntreak_tests::header::places::SEEN_AT;
 use juntreak_tests::header::refusals::{BUFFER, OK, SEEN, STATES, UNSOUND};
 use juntreak_tests::header::NUMBERS;
-use juntreak_tests::model::{self, Session, Table};
+use juntreak_tests::model::{self, Session, Table, Width::Wide};
 use juntreak_tests::naive::Stream;
 use juntreak_tests::queue::Monitor;
 use juntreak_tests::random::{damage, short_words, table, trace, words, Random};
@@ -119,7 +121,10 @@ fn spoil(r: &mut Random, session: &mut [u8; SESSION_BYTES], block: &mut Vec<u32>
     match r.below(16) {
         0 => damage(r, session),
         1 => block.resize(r.pick(&[MAX_BLOCK, MAX_BLOCK + 1]), 3),
-        2 => session[SEEN_AT..].copy_from_slice(&r.pick(&[5, 5000, MAX_SEEN as u64 - 3, MAX_SEEN as u64, MAX_SEEN as u64 + 1]).to_le_bytes()),
+        2 => {
+            let (narrow, wide) = (MAX_NARROW_SEEN as u64, MAX_SEEN as u64);
+            session[SEEN_AT..].copy_from_slice(&r.pick(&[5, 5000, narrow - 3, narrow, narrow + 1, 1 << 40, wide - 3, wide]).to_le_bytes());
+        }
         3 => history.truncate(HISTORY_WORDS - 1),
         4 => scratch.truncate(SCRATCH_WORDS - 1),
         5 => out.truncate(r.pick(&[FEED_WORDS - 1, FEED_WORDS, CLOSE_WORDS - 1])),
@@ -153,9 +158,9 @@ fn twin_sessions() {
             spoil(&mut r, &mut session, &mut block, &mut history, &mut scratch, &mut out);
             let (mut s, mut h, mut x, mut o) = (session, history.clone(), scratch.clone(), out.clone());
             let (got, wanted) = if r.chance(5) {
-                (twin::close(&mut session, &history, &mut scratch, &mut out), model::close(&mut s, &h, &mut x, &mut o))
+                (twin::close(&mut session, &history, &mut scratch, &mut out), model::close(Wide, &mut s, &h, &mut x, &mut o))
             } else {
-                (twin::feed(&mut session, &block, &mut history, &mut scratch, &mut out), model::feed(&mut s, &block, &mut h, &mut x, &mut o))
+                (twin::feed(&mut session, &block, &mut history, &mut scratch, &mut out), model::feed(Wide, &mut s, &block, &mut h, &mut x, &mut o))
             };
             assert_eq!(got, wanted);
             same("session", &session[..], &s[..]);
