@@ -6,7 +6,5 @@ mod Effects
 pub mod Listed
 -- no change, another measure
 pub mod Corollaries
--- lists of other calls
-mod Viewed
 -- the list worked by hand
 mod Example

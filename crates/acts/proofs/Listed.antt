@@ -1,18 +1,17 @@
 -- Every list of calls keeps the claim, and every beginning of such a list is one. Assumes nothing.
-use Prim.Native.Nat.{ℕ, _+_, _-_, _≤_, _<_}
+use Prim.Native.Nat.{ℕ, _+_, _-_, _≤_}
 use native.Mathlib.Omega.{arith}
 use mathlib.Core.Path.{_≡_, refl, sym, ap, _∙_, subst}
 use mathlib.Core.Bool.{Bool, true, false}
-use mathlib.Core.Logic.{⊎-elim}
-use mathlib.Core.List.{List, [], _∷_, _++_, append-assoc, append-nil}
+use mathlib.Core.List.{List, [], _∷_, _++_, append-nil}
 use borrow.Author.Tests.{eq-eqb, ne-eqb, ltb-false}
-use lib.ListN.{length, take, length-append, length-take}
-use lib.Seq.{take-nil, take-all, take-append-le}
+use lib.ListN.{length, take, length-take}
+use lib.Seq.{take-nil}
 use Rattle.lists.specs.Choice.{pick, first}
-use Rattle.lists.proofs.Tests.{lt-or-le}
+use Rattle.lists.proofs.Sequences.{concatMap-snoc, first-by}
 use Rattle.lists.proofs.Rows.{no-row}
 use Rattle.acts.specs.World.{World, Width, narrow, wide, limit, Session, Act, feed, close, widen, change, Effect, done, heldBy, lastRows, Takes, Lawful}
-use Rattle.acts.specs.Calls.{Call, Meets, isAccepted, blockOf, statesFed, verdictsGiven, Rules, opened, firstTickOf, inForce, sourceOf, ruled, rulesBy, ends, Calls, begin, accepted, refused, ClaimUnder}
+use Rattle.acts.specs.Calls.{Call, Meets, isAccepted, blockOf, statesOf, verdictsOf, statesFed, verdictsGiven, Rules, opened, firstTickOf, inForce, sourceOf, ruled, rulesBy, ends, Calls, begin, accepted, refused, ClaimUnder}
 use Rattle.acts.specs.Demand.{opening, sessionBy, rulesOf, Beginning, Demand}
 use Rattle.acts.proofs.Stream.{none-yet, fed-session, fed-claim, at-given, changed-session, changed-claim, closed-claim}
 use Rattle.acts.proofs.Effects.{call-accepted, call-last, call-none, call-refused}
@@ -61,14 +60,6 @@ module _ (w : World) (start : List ℕ) where
 
 -- ---- one call more
 module _ (w : World) where
-  states-snoc : (cs : List (Call w)) (c : Call w) → statesFed w (cs ++ (c ∷ [])) ≡ statesFed w cs ++ pick (isAccepted w c) (blockOf w (c .act)) []
-  states-snoc [] c = append-nil (pick (isAccepted w c) (blockOf w (c .act)) [])
-  states-snoc (d ∷ cs) c = rw (states-snoc cs c) (sym (append-assoc (pick (isAccepted w d) (blockOf w (d .act)) []) (statesFed w cs) _))
-
-  verdicts-snoc : (cs : List (Call w)) (c : Call w) → verdictsGiven w (cs ++ (c ∷ [])) ≡ verdictsGiven w cs ++ c .effect .verdicts
-  verdicts-snoc [] c = append-nil (c .effect .verdicts)
-  verdicts-snoc (d ∷ cs) c = rw (verdicts-snoc cs c) (sym (append-assoc (d .effect .verdicts) (verdictsGiven w cs) _))
-
   rules-snoc : (p : Rules w) (cs : List (Call w)) (c : Call w)
       → rulesBy w p (cs ++ (c ∷ [])) ≡ pick (isAccepted w c) (ruled w (c .act) (c .effect .session .firstTick) (rulesBy w p cs)) (rulesBy w p cs)
   rules-snoc p [] c = refl
@@ -83,14 +74,14 @@ module _ (w : World) (width : Width) (r : w .Rule) (b : w .Source) (o : w .From 
       → Come (cs ++ (c ∷ [])) (c .effect .session) (c .effect .history) (ends w (c .act))
   come-accepted cs c k m f z =
       let y : isAccepted w c ≡ true = eq-eqb (c .effect .number) 0 z in
-      rw (states-snoc w cs c, verdicts-snoc w cs c, rules-snoc w (opened r b) cs c, y, call-accepted w c m z)
+      rw (concatMap-snoc (statesOf w) cs c, concatMap-snoc (verdictsOf w) cs c, rules-snoc w (opened r b) cs c, y, call-accepted w c m z)
       (next w start (c .act) (rulesOf w r b cs) (statesFed w cs) (verdictsGiven w cs) (c .session) (c .history) k (m .takes) f)
 
   come-refused : (cs : List (Call w)) (s : Session (w .Rule)) (h : List ℕ) (ended : Bool) (c : Call w) → Come cs s h ended → Meets w c
       → (c .effect .number ≡ 0 → ⊥) → Come (cs ++ (c ∷ [])) s h ended
   come-refused cs s h ended c k m n =
       let y : isAccepted w c ≡ false = ne-eqb (c .effect .number) 0 n in
-      rw (states-snoc w cs c, verdicts-snoc w cs c, rules-snoc w (opened r b) cs c, y, call-none w c m n, append-nil (statesFed w cs), append-nil (verdictsGiven w cs)) k
+      rw (concatMap-snoc (statesOf w) cs c, concatMap-snoc (verdictsOf w) cs c, rules-snoc w (opened r b) cs c, y, call-none w c m n, append-nil (statesFed w cs), append-nil (verdictsGiven w cs)) k
 
   pub come : {cs : List (Call w)} {s : Session (w .Rule)} {h : List ℕ} {ended : Bool} → Calls w (opening w width r) start cs s h ended → Come cs s h ended
   come begin = record { session = refl; from = o; young = λ q. refl; claim = none-yet w r b start }
@@ -108,19 +99,13 @@ module _ (w : World) (width : Width) (r : w .Rule) (b : w .Source) (o : w .From 
 
 -- ---- every beginning of such a list is such a list
 module _ (w : World) (s₀ : Session (w .Rule)) (start : List ℕ) (j : ℕ) where
-  -- what holds of the first j of a list, and of the list with one call more, holds of the first j of that
-  first-of : (cs : List (Call w)) (c : Call w) (P : List (Call w) → Type 0) → P (take j cs) → P (cs ++ (c ∷ [])) → P (take j (cs ++ (c ∷ [])))
-  first-of cs c P p q =
-      ⊎-elim (λ (h : length cs < j). rw (take-all j (cs ++ (c ∷ [])) (simp length-append (omega arith))) q) (λ (h : j ≤ length cs). rw take-append-le p)
-      (lt-or-le (length cs) j)
-
   so-far : {cs : List (Call w)} {s : Session (w .Rule)} {h : List ℕ} {ended : Bool} → Calls w s₀ start cs s h ended → Beginning w s₀ start cs
   so-far l = record { session = _; history = _; ended = _; calls = l }
 
   pub beginning : {cs : List (Call w)} {s : Session (w .Rule)} {h : List ℕ} {ended : Bool} → Calls w s₀ start cs s h ended → Beginning w s₀ start (take j cs)
   beginning begin = rw take-nil (so-far begin)
-  beginning (accepted {cs = cs} c l m f z) = first-of cs c (Beginning w s₀ start) (beginning l) (so-far (accepted c l m f z))
-  beginning (refused {cs = cs} c l m n) = first-of cs c (Beginning w s₀ start) (beginning l) (so-far (refused c l m n))
+  beginning (accepted {cs = cs} c l m f z) = first-by j cs c (Beginning w s₀ start) (beginning l) (so-far (accepted c l m f z))
+  beginning (refused {cs = cs} c l m n) = first-by j cs c (Beginning w s₀ start) (beginning l) (so-far (refused c l m n))
 
 -- ---- the count of a list's session stays within its limit: row 24 fits neither a close nor a change of it
 some-limit : (p : Width) → 0 + 0 ≤ limit p

@@ -7,7 +7,7 @@ use mathlib.Core.List.{List, [], _∷_, _++_}
 use lib.ListN.{length, take, drop}
 use lib.Dec.{leb, eqb}
 use Rattle.lists.specs.Choice.{pick}
-use Rattle.lists.specs.Sequence.{ticks, lastOf}
+use Rattle.lists.specs.Sequence.{ticks, lastOf, concatMap}
 use Rattle.acts.specs.World.{World, Session, Act, feed, close, widen, change, Effect, effectOf, Takes, Lawful}
 
 module _ (w : World) where
@@ -35,13 +35,17 @@ module _ (w : World) where
   blockOf widen = []
   blockOf (change r b) = []
 
+  abbrev pub statesOf : Call → List ℕ
+  statesOf c = pick (isAccepted c) (blockOf (c .act)) []
+
+  abbrev pub verdictsOf : Call → List Bool
+  verdictsOf c = c .effect .verdicts
+
   abbrev pub statesFed : List Call → List ℕ
-  statesFed [] = []
-  statesFed (c ∷ cs) = pick (isAccepted c) (blockOf (c .act)) [] ++ statesFed cs
+  statesFed cs = concatMap statesOf cs
 
   abbrev pub verdictsGiven : List Call → List Bool
-  verdictsGiven [] = []
-  verdictsGiven (c ∷ cs) = c .effect .verdicts ++ verdictsGiven cs
+  verdictsGiven cs = concatMap verdictsOf cs
 
   -- ---- the rules of a list so far, the newest first: each with its first tick (A12)
   pub data Rules : Type 0 where

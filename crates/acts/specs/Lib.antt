@@ -8,7 +8,5 @@ pub mod Calls
 pub mod Demand
 -- what follows: no change, another measure
 pub mod Corollaries
--- lists of other calls, each seen as a call of the world
-pub mod Viewed
 -- formulas as a world, and a list worked by hand
 pub mod Example

@@ -1,14 +1,12 @@
--- Lists of calls: one call more, what refused calls leave, the session that a list has come to, the claim, and beginnings. Assumes nothing.
-use Prim.Native.Nat.{ℕ, _≤_, _<_}
+-- Lists of calls: what refused calls leave, the session that a list has come to, the claim, and beginnings. Assumes nothing.
+use Prim.Native.Nat.{ℕ}
 use native.Mathlib.Nat.{sub-zero}
-use native.Mathlib.Omega.{arith}
 use mathlib.Core.Path.{_≡_, sym, ap, _∙_}
 use mathlib.Core.Bool.{Bool, true, false}
-use mathlib.Core.Logic.{⊎-elim}
-use mathlib.Core.List.{List, [], _∷_, _++_, map, append-assoc, append-nil}
-use lib.ListN.{length, take, length-append}
-use lib.Seq.{take-nil, take-all, take-append-le}
-use Rattle.lists.proofs.Tests.{lt-or-le}
+use mathlib.Core.List.{List, map}
+use lib.ListN.{length, take}
+use lib.Seq.{take-nil}
+use Rattle.lists.proofs.Sequences.{first-by}
 use Rattle.mltl.specs.Mltl.{holds, delay}
 use Rattle.session.specs.declared.Session.{Session}
 use Rattle.session.specs.Session.{Effect, refused as unchanged, withSeen}
@@ -21,19 +19,10 @@ use Rattle.acts.specs.Claim.{Claim}
 use Rattle.acts.specs.Calls as acts
 use Rattle.acts.specs.Demand.{sessionBy}
 use Rattle.acts.proofs.Corollaries.{session-unchanged, without-changes}
-use Rattle.mission.specs.Calls.{AnySession, Act, feed, close, widen, effectOf, handedBack, Call, Meets, numberOf, statesOf, verdictsOf, statesFed, verdictsGiven, seenBy, Calls, begin, accepted, refused}
+use Rattle.mission.specs.Calls.{AnySession, Act, feed, close, widen, effectOf, handedBack, Call, Meets, numberOf, statesFed, verdictsGiven, seenBy, Calls, begin, accepted, refused}
 use Rattle.mission.specs.Mission.{Beginning}
 use Rattle.mission.proofs.World.{Watch, formula, Made, tables, seenSession, seenCall}
 use Rattle.mission.proofs.Seen.{opened, seen, same-states, same-verdicts, no-change}
-
--- ---- one call more
-pub states-snoc : (cs : List Call) (c : Call) → statesFed (cs ++ (c ∷ [])) ≡ statesFed cs ++ statesOf c
-states-snoc [] c = append-nil (statesOf c)
-states-snoc (d ∷ cs) c = rw (states-snoc cs c) (sym (append-assoc (statesOf d) (statesFed cs) (statesOf c)))
-
-pub verdicts-snoc : (cs : List Call) (c : Call) → verdictsGiven (cs ++ (c ∷ [])) ≡ verdictsGiven cs ++ verdictsOf c
-verdicts-snoc [] c = append-nil (verdictsOf c)
-verdicts-snoc (d ∷ cs) c = rw (verdicts-snoc cs c) (sym (append-assoc (verdictsOf d) (verdictsGiven cs) (verdictsOf c)))
 
 -- ---- a refused call hands back its session and its buffers as they were, a widening no session
 refused-act : (a : Act) (s : AnySession) (h x o : List ℕ) → (effectOf a s h x o .answer .number ≡ 0 → ⊥)
@@ -78,17 +67,11 @@ module _ (r b : Watch) (made : Made r b) (width : Width) (start : List ℕ) wher
       rw (same-states cs, same-verdicts cs) at (without-changes tables width r b start (map seenCall cs) (seenSession s) h ended made (seen r width start l) (no-change cs))
 
 -- ---- every beginning of such a list is such a list
--- what holds of the first j of a list, and of the list with one call more, holds of the first j of that
-first-of : (j : ℕ) (cs : List Call) (c : Call) (P : List Call → Type 0) → P (take j cs) → P (cs ++ (c ∷ [])) → P (take j (cs ++ (c ∷ [])))
-first-of j cs c P p q =
-    ⊎-elim (λ (h : length cs < j). rw (take-all j (cs ++ (c ∷ [])) (simp length-append (omega arith))) q) (λ (h : j ≤ length cs). rw take-append-le p)
-    (lt-or-le (length cs) j)
-
 module _ (first : AnySession) (start : List ℕ) (j : ℕ) where
   so-far : {cs : List Call} {s : AnySession} {h : List ℕ} {ended : Bool} → Calls first start cs s h ended → Beginning first start cs
   so-far l = record { session = _; history = _; ended = _; calls = l }
 
   pub beginning : {cs : List Call} {s : AnySession} {h : List ℕ} {ended : Bool} → Calls first start cs s h ended → Beginning first start (take j cs)
   beginning begin = rw take-nil (so-far begin)
-  beginning (accepted {cs = cs} c l m z) = first-of j cs c (Beginning first start) (beginning l) (so-far (accepted c l m z))
-  beginning (refused {cs = cs} c l m r) = first-of j cs c (Beginning first start) (beginning l) (so-far (refused c l m r))
+  beginning (accepted {cs = cs} c l m z) = first-by j cs c (Beginning first start) (beginning l) (so-far (accepted c l m z))
+  beginning (refused {cs = cs} c l m r) = first-by j cs c (Beginning first start) (beginning l) (so-far (refused c l m r))

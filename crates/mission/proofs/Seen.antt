@@ -12,6 +12,7 @@ use lib.ListN.{length}
 use Rattle.lists.specs.Choice.{pick, first}
 use Rattle.lists.specs.Sequence.{ticks}
 use Rattle.lists.specs.Bits.{bitAt}
+use Rattle.lists.proofs.Sequences.{concatMap-map}
 use Rattle.lists.proofs.Tests.{true-or-false, _also_}
 use Rattle.session.specs.Session.{Effect, unfit, feedingWithin, fed, closing, closed, feedNumber, closeNumber, keptOf, formulaOf, delayOf, feedCount, refused as unchanged}
 use Rattle.session.proofs.Effects.{words-verdicts, close-number}
@@ -22,7 +23,7 @@ use Rattle.acts.specs.Calls as acts
 use Rattle.acts.specs.Demand.{opening}
 use Rattle.acts.specs.Corollaries.{keepsRule, unchanged as unchangedRules}
 use Rattle.acts.proofs.Listed.{within}
-use Rattle.mission.specs.Calls.{AnySession, Act, feed, close, widen, effectOf, blockOf, ends, Takes, widthAfter, Call, Meets, numberOf, sessionAfter, statesFed, verdictsGiven, Calls, begin, accepted, refused}
+use Rattle.mission.specs.Calls.{AnySession, Act, feed, close, widen, effectOf, blockOf, ends, Takes, widthAfter, Call, Meets, numberOf, sessionAfter, statesOf, verdictsOf, statesFed, verdictsGiven, Calls, begin, accepted, refused}
 use Rattle.mission.proofs.World.{Watch, Buffers, short, tables, seenSession, seenAct, seenEffect, seenCall}
 
 -- ---- one call
@@ -142,12 +143,10 @@ module _ (r : Watch) (width : Width) (start : List ℕ) where
 
 -- ---- what was fed and given; no call changes the rule
 pub same-states : (cs : List Call) → acts.statesFed tables (map seenCall cs) ≡ statesFed cs
-same-states [] = refl
-same-states (c ∷ cs) = rw (same-states cs, same-block (c .act))
+same-states cs = concatMap-map (acts.statesOf tables) seenCall statesOf (λ c. rw (same-block (c .act))) cs
 
 pub same-verdicts : (cs : List Call) → acts.verdictsGiven tables (map seenCall cs) ≡ verdictsGiven cs
-same-verdicts [] = refl
-same-verdicts (c ∷ cs) = rw (same-verdicts cs)
+same-verdicts cs = concatMap-map (acts.verdictsOf tables) seenCall verdictsOf (λ c. refl) cs
 
 keeps : (a : Act) → keepsRule tables (seenAct a) ≡ true
 keeps (feed block) = refl

@@ -5,22 +5,24 @@ use native.Mathlib.Omega.{arith}
 use mathlib.Core.Path.{_≡_, refl, sym, ap, _∙_}
 use mathlib.Core.Bool.{Bool, true, false}
 use mathlib.Core.Logic.{_⊎_, inl, inr, ⊎-elim}
-use mathlib.Core.List.{List, [], _∷_, _++_, append-assoc, append-nil}
+use mathlib.Core.List.{List, [], _∷_, _++_, append-nil}
 use borrow.Author.Tests.{eq-eqb, ne-eqb, ltb-false, le-ltb}
 use lib.Dec.{eqb, ltb}
 use lib.ListN.{length, take}
 use Rattle.refusals.specs.Numbers.{SEEN}
 use Rattle.lists.specs.Choice.{Row, _if_, first}
+use Rattle.lists.specs.Sequence.{concatMap}
+use Rattle.lists.proofs.Sequences.{concatMap-snoc}
 use Rattle.lists.proofs.Rows.{no-row, last-other}
 use Rattle.session.specs.Session.{Effect, unfit, feedRows, feedNumber, fed, feedingWithin}
 use Rattle.session.proofs.Effects.{feed-accepted}
 use Rattle.narrow.proofs.Widening.{widen-same}
 use Rattle.acts.specs.World.{Width, wide, limit}
 use Rattle.acts.proofs.Listed.{limit-wide}
-use Rattle.mission.specs.Calls.{AnySession, asWide, Act, feed, close, widen, effectOf, ends, Takes, widthAfter, Call, Meets, numberOf, sessionAfter, statesOf, verdictsOf, statesFed, verdictsGiven, wideningsBy, wideningsOf, widenings, wideCall, wideCallsOf, wideCalls, Calls, begin, accepted, refused}
+use Rattle.mission.specs.Calls.{AnySession, asWide, Act, feed, close, widen, effectOf, ends, Takes, widthAfter, Call, Meets, numberOf, sessionAfter, statesOf, verdictsOf, wideningsBy, wideningsOf, widenings, wideCall, wideCallsOf, wideCalls, Calls, begin, accepted, refused}
 use Rattle.mission.specs.Mission.{Start, openedAs, AsIfWide, widthNumber}
 use Rattle.mission.proofs.Seen.{given}
-use Rattle.mission.proofs.Listed.{states-snoc, verdicts-snoc, handed-back}
+use Rattle.mission.proofs.Listed.{handed-back}
 
 -- ---- at most one widening
 widenings-snoc : (cs : List Call) (c : Call) → widenings (cs ++ (c ∷ [])) ≡ widenings cs + wideningsOf c
@@ -109,42 +111,29 @@ none-refused : (c : Call) → Meets c → (numberOf c ≡ 0 → ⊥) → None c
 none-refused c g n = let y = ne-eqb (numberOf c) 0 n in (rw y, rw y, ap given (handed-back c g n))
 
 -- ---- as if wide from the start
-wide-snoc : (cs : List Call) (c : Call) → wideCalls (cs ++ (c ∷ [])) ≡ wideCalls cs ++ wideCallsOf c
-wide-snoc [] c = append-nil (wideCallsOf c)
-wide-snoc (d ∷ cs) c = rw (wide-snoc cs c) (sym (append-assoc (wideCallsOf d) (wideCalls cs) (wideCallsOf c)))
+-- what f makes of the calls of a list made wide, joined, is what it makes of those of the list: one call more
+module _ {B : Type 0} (f : Call → List B) (cs : List Call) (c : Call) (e : concatMap f (wideCalls cs) ≡ concatMap f cs) where
+  joined-one : f (wideCall c) ≡ f c → wideCallsOf c ≡ wideCall c ∷ [] → concatMap f (wideCalls (cs ++ (c ∷ []))) ≡ concatMap f (cs ++ (c ∷ []))
+  joined-one s o = rw (concatMap-snoc wideCallsOf cs c, o, concatMap-snoc f (wideCalls cs) (wideCall c), concatMap-snoc f cs c, e, s)
 
--- the states and verdicts of a list made wide, with one call more
-module _ (cs : List Call) (c : Call) (xs : statesFed (wideCalls cs) ≡ statesFed cs) (vs : verdictsGiven (wideCalls cs) ≡ verdictsGiven cs) where
-  abbrev Same : Type 0
-  Same = (statesFed (wideCalls (cs ++ (c ∷ []))) ≡ statesFed (cs ++ (c ∷ []))) × (verdictsGiven (wideCalls (cs ++ (c ∷ []))) ≡ verdictsGiven (cs ++ (c ∷ [])))
-
-  same-one : One c → Same
-  same-one o = (
-    rw (wide-snoc cs c, o .0, states-snoc (wideCalls cs) (wideCall c), states-snoc cs c, xs),
-    rw (wide-snoc cs c, o .0, verdicts-snoc (wideCalls cs) (wideCall c), verdicts-snoc cs c, vs),
-  )
-
-  same-none : None c → Same
-  same-none o = (
-    rw (wide-snoc cs c, o .0, append-nil (wideCalls cs), states-snoc cs c, o .1, append-nil (statesFed cs)) xs,
-    rw (wide-snoc cs c, o .0, append-nil (wideCalls cs), verdicts-snoc cs c, o .2, append-nil (verdictsGiven cs)) vs,
-  )
+  joined-none : f c ≡ [] → wideCallsOf c ≡ [] → concatMap f (wideCalls (cs ++ (c ∷ []))) ≡ concatMap f (cs ++ (c ∷ []))
+  joined-none s o = rw (concatMap-snoc wideCallsOf cs c, o, append-nil (wideCalls cs), concatMap-snoc f cs c, s, append-nil (concatMap f cs)) e
 
 module _ (m : Start) where
   wide-one : (cs : List Call) (c : Call) → AsIfWide m cs (c .session) (c .history) false → Meets c → numberOf c ≡ 0 → One c
       → AsIfWide m (cs ++ (c ∷ [])) (sessionAfter c) (c .effect .history) (ends (c .act))
-  wide-one cs c k g z o =
-      let w = same-one cs c (k .states) (k .verdicts) o in
-      record {
-        calls = rw (wide-snoc cs c, o .0) (rw (stays-wide (c .act)) at (accepted (wideCall c) (k .calls) (meets-wide c g z (o .1)) z));
-        states = w .0;
-        verdicts = w .1;
-      }
+  wide-one cs c k g z o = record {
+    calls = rw (concatMap-snoc wideCallsOf cs c, o .0) (rw (stays-wide (c .act)) at (accepted (wideCall c) (k .calls) (meets-wide c g z (o .1)) z));
+    states = joined-one statesOf cs c (k .states) refl (o .0);
+    verdicts = joined-one verdictsOf cs c (k .verdicts) refl (o .0);
+  }
 
   wide-none : (cs : List Call) (c : Call) (s : AnySession) (h : List ℕ) (ended : Bool) → AsIfWide m cs s h ended → None c → AsIfWide m (cs ++ (c ∷ [])) s h ended
-  wide-none cs c s h ended k o =
-      let w = same-none cs c (k .states) (k .verdicts) o in
-      record { calls = rw (wide-snoc cs c, o .0, append-nil (wideCalls cs)) (k .calls); states = w .0; verdicts = w .1 }
+  wide-none cs c s h ended k o = record {
+    calls = rw (concatMap-snoc wideCallsOf cs c, o .0, append-nil (wideCalls cs)) (k .calls);
+    states = joined-none statesOf cs c (k .states) (o .1) (o .0);
+    verdicts = joined-none verdictsOf cs c (k .verdicts) (o .2) (o .0);
+  }
 
   wide-widen : (cs : List Call) (c : Call) → AsIfWide m cs (c .session) (c .history) false → Meets c → numberOf c ≡ 0 → None c → c .act ≡ widen
       → AsIfWide m (cs ++ (c ∷ [])) (sessionAfter c) (c .effect .history) (ends (c .act))

@@ -1,12 +1,12 @@
 -- Lists of calls of feed, close and widen on one session (document 01, Session; A4; the third demand).
-use Prim.Native.Nat.{ℕ, _+_}
+use Prim.Native.Nat.{ℕ}
 use mathlib.Core.Path.{_≡_}
 use mathlib.Core.Bool.{Bool, true, false}
-use mathlib.Core.List.{List, [], _∷_, _++_}
+use mathlib.Core.List.{List, [], _∷_, _++_, map}
 use lib.ListN.{length}
 use lib.Dec.{eqb}
 use Rattle.lists.specs.Choice.{Row, pick}
-use Rattle.lists.specs.Sequence.{ticks}
+use Rattle.lists.specs.Sequence.{ticks, concatMap, sum}
 use Rattle.lists.specs.Bits.{bitAt}
 use Rattle.session.specs.declared.Session.{Session}
 use Rattle.session.specs.Session.{Effect, noSession, unfit, feedRows, feedingWithin, closeRows, closing}
@@ -103,12 +103,10 @@ abbrev pub verdictsOf : Call → List Bool
 verdictsOf c = ticks (bitAt (c .effect .out)) (c .effect .answer .count)
 
 abbrev pub statesFed : List Call → List ℕ
-statesFed [] = []
-statesFed (c ∷ cs) = statesOf c ++ statesFed cs
+statesFed cs = concatMap statesOf cs
 
 abbrev pub verdictsGiven : List Call → List Bool
-verdictsGiven [] = []
-verdictsGiven (c ∷ cs) = verdictsOf c ++ verdictsGiven cs
+verdictsGiven cs = concatMap verdictsOf cs
 
 -- how many widenings were accepted
 abbrev pub wideningsBy : Act → ℕ
@@ -120,8 +118,7 @@ abbrev pub wideningsOf : Call → ℕ
 wideningsOf c = pick (eqb (numberOf c) 0) (wideningsBy (c .act)) 0
 
 abbrev pub widenings : List Call → ℕ
-widenings [] = 0
-widenings (c ∷ cs) = wideningsOf c + widenings cs
+widenings cs = sum (map wideningsOf cs)
 
 -- the accepted feeds and closes of a list, each on its session with a wide count
 abbrev pub wideCall : Call → Call
@@ -136,8 +133,7 @@ abbrev pub wideCallsOf : Call → List Call
 wideCallsOf c = pick (eqb (numberOf c) 0) (wideCallsBy (c .act) c) []
 
 abbrev pub wideCalls : List Call → List Call
-wideCalls [] = []
-wideCalls (c ∷ cs) = wideCallsOf c ++ wideCalls cs
+wideCalls cs = concatMap wideCallsOf cs
 
 -- how many states a list's session has seen: none after a close
 abbrev pub seenBy : Bool → List Call → ℕ

@@ -13,17 +13,16 @@ use Rattle.lists.specs.Choice.{pick}
 use Rattle.lists.specs.Sequence.{ticks}
 use Rattle.lists.specs.Bits.{bitAt}
 use Rattle.lists.proofs.Tests.{true-or-false}
-use Rattle.lists.proofs.Sequences.{length-ticks}
+use Rattle.lists.proofs.Sequences.{length-ticks, concatMap-snoc}
 use Rattle.table.proofs.Soundness.{watched-short}
 use Rattle.session.specs.declared.Session.{Session}
 use Rattle.session.specs.Session.{Effect, feeding, closing, unfit, withSeen, delayOf as delayIn}
 use Rattle.session.proofs.Effects.{opened-is, opened-rule, opened-sound, opened-fit, feed-number, close-number}
 use Rattle.acts.specs.Claim.{Going}
 use Rattle.acts.specs.World.{wide}
-use Rattle.mission.specs.Calls.{asWide, sessionAfter, Call, feed, close, begin, accepted, statesFed, verdictsGiven}
+use Rattle.mission.specs.Calls.{asWide, sessionAfter, Call, feed, close, begin, accepted, statesOf, verdictsOf, statesFed, verdictsGiven}
 use Rattle.mission.specs.Mission.{Start, sessionOf, startDelay, verdictOf}
 use Rattle.mission.proofs.ThirdDemand.{third-demand, session-is, seen-within}
-use Rattle.mission.proofs.Listed.{states-snoc, verdicts-snoc}
 use Rattle.lines.specs.declared.Line.{Line}
 use Rattle.lines.specs.Lines.{Parsed, state, bad, parsedLines, parsedFrom, empty, parsedOf, Filling, filling}
 use Rattle.lines.proofs.Laws.{text-is, badIf, fill-reads, fill-stops}
@@ -167,8 +166,8 @@ module _ (m : Start) where
           (answer .answer .session) (answer .history) line [] (tick + answer .answer .count)
       running-fed e z =
           let us = ticks (bitAt (answer .out)) (answer .answer .count) in
-          let g : verdictsGiven (r .calls ++ (call ∷ [])) ≡ verdictsGiven (r .calls) ++ us = verdicts-snoc (r .calls) call in
-          let t : statesFed (r .calls ++ (call ∷ [])) ≡ fed ++ waiting = states-snoc (r .calls) call ∙ rw (eq-eqb (answer .answer .number) 0 z) in
+          let g : verdictsGiven (r .calls ++ (call ∷ [])) ≡ verdictsGiven (r .calls) ++ us = concatMap-snoc verdictsOf (r .calls) call in
+          let t : statesFed (r .calls ++ (call ∷ [])) ≡ fed ++ waiting = concatMap-snoc statesOf (r .calls) call ∙ rw (eq-eqb (answer .answer .number) 0 z) in
           let a : 0 + length (verdictsGiven (r .calls)) ≡ tick = omega (arith, r .next) in
           record {
             calls = r .calls ++ (call ∷ []);
@@ -225,8 +224,8 @@ module _ (m : Start) where
       printed-all d none =
           let us = ticks (bitAt (closed .out)) (closed .answer .count) in
           let c = third-demand .claim m wide (r .calls ++ (closeCall ∷ [])) (sessionAfter closeCall) (closed .history) true (accepted closeCall (r .reached) (record { takes = tt; is = refl }) close-accepted) in
-          let g : verdictsGiven (r .calls ++ (closeCall ∷ [])) ≡ verdictsGiven (r .calls) ++ us = verdicts-snoc (r .calls) closeCall in
-          let t : statesFed (r .calls ++ (closeCall ∷ [])) ≡ fed = states-snoc (r .calls) closeCall ∙ rw (eq-eqb (closed .answer .number) 0 close-accepted) (append-nil fed) in
+          let g : verdictsGiven (r .calls ++ (closeCall ∷ [])) ≡ verdictsGiven (r .calls) ++ us = concatMap-snoc verdictsOf (r .calls) closeCall in
+          let t : statesFed (r .calls ++ (closeCall ∷ [])) ≡ fed = concatMap-snoc statesOf (r .calls) closeCall ∙ rw (eq-eqb (closed .answer .number) 0 close-accepted) (append-nil fed) in
           let v : verdictsGiven (r .calls) ++ us ≡ ticks (verdictOf m fed) (length fed) = sym g ∙ c .exact ∙ rw t in
           let a : 0 + length (verdictsGiven (r .calls)) ≡ tick = omega (arith, r .next) in
           let k : shown ++ rowsNamed (ruleName m) tick us ≡ rowsUpTo m fed (length fed) =

@@ -5,9 +5,6 @@ use Rattle.interval.proofs.Laws.{top-is, top-12}
 use Rattle.interval.proofs.largest.Statement.{statement}
 use Rattle.interval.proofs.largest.Tie as tie
 
-add-result : tie.Need-add-result
-add-result c = search needs
-
 sub-result : tie.Need-sub-result
 sub-result c = omega (arith, top-is 32 (c .args .rest) (omega arith) .0)
 
@@ -17,4 +14,4 @@ returns c =
     omega (arith, top-12 (c .args .rest) (c .pre))
 
 pub largest-spec : {M : Type 1} → statement M
-largest-spec = tie.close (tie.spec add-result sub-result returns)
+largest-spec = tie.close (tie.spec (search needs) sub-result returns)

@@ -37,25 +37,10 @@ tests c =
 room : (c : tie.After-struct-known2 Inv-loop μ-loop) → let p = line-read (c .before .before) .before .before .loop in p .k < length (p .block)
 room c = tests (line-read (c .before .before) .before) .1
 
-scan-line-requires : tie.Need-scan-line-requires Inv-loop μ-loop
-scan-line-requires c κs = search needs
-
-same-length : tie.Need-same-length Inv-loop μ-loop
-same-length c = search needs
-
 returns : tie.Need-returns Inv-loop μ-loop
 returns c =
     let q = c .before .before .before in
     part-read (q .before .before .loop .inv) (q .scan-line .result) (q .scan-line .ensures) (tests (q .before) .1) (not-true _ (c .if1 .taken))
-
-is-state-requires : tie.Need-is-state-requires Inv-loop μ-loop
-is-state-requires c κs = search needs
-
-start-requires : tie.Need-start-requires Inv-loop μ-loop
-start-requires c κs = search needs
-
-same-length-2 : tie.Need-same-length-2 Inv-loop μ-loop
-same-length-2 c = search needs
 
 returns-2 : tie.Need-returns-2 Inv-loop μ-loop
 returns-2 c =
@@ -79,9 +64,6 @@ slice-write-block c = search (needs, room c)
 add-k : tie.Need-add-k Inv-loop μ-loop
 add-k c = search (needs, room c)
 
-start-requires-2 : tie.Need-start-requires-2 Inv-loop μ-loop
-start-requires-2 c κs = search needs
-
 loop-less : tie.Need-loop-less Inv-loop μ-loop
 loop-less c =
     let n = c .before .before .before in
@@ -97,32 +79,11 @@ loop-again c =
     (more-read (q .before .before .loop .inv) (q .scan-line .result) (q .scan-line .ensures) (tests (q .before) .1) (not-false _ (n .before .if1 .left))
     (sym (n .is-state .ensures) ∙ not-false _ (c .before .before .if2 .left)))
 
-same-length-3 : tie.Need-same-length-3 Inv-loop μ-loop
-same-length-3 c = search needs
-
 returns-3 : tie.Need-returns-3 Inv-loop μ-loop
 returns-3 c = reached-stop (c .before .loop .inv) (c .loop-test .left)
 
 pub fill-spec : {M : Type 1} → statement M
 fill-spec =
     tie.close
-    (tie.spec
-    Inv-loop
-    μ-loop
-    loop-holds
-    scan-line-requires
-    same-length
-    returns
-    is-state-requires
-    start-requires
-    same-length-2
-    returns-2
-    cast-block
-    mul-block
-    slice-write-block
-    add-k
-    start-requires-2
-    loop-less
-    loop-again
-    same-length-3
-    returns-3)
+    (tie.spec Inv-loop μ-loop loop-holds (search needs) (search needs) returns (search needs) (search needs) (search needs) returns-2 cast-block
+    mul-block slice-write-block add-k (search needs) loop-less loop-again (search needs) returns-3)

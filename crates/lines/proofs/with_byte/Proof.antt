@@ -5,18 +5,6 @@ use Rattle.lines.specs.Lines.{withByte}
 use Rattle.lines.proofs.with_byte.Statement.{statement}
 use Rattle.lines.proofs.with_byte.Tie as tie
 
-add-t9 : tie.Need-add-t9
-add-t9 c = search needs
-
-mul-t10 : tie.Need-mul-t10
-mul-t10 c = search needs
-
-sub-t12 : tie.Need-sub-t12
-sub-t12 c = search needs
-
-add-t13 : tie.Need-add-t13
-add-t13 c = search needs
-
 returns : tie.Need-returns
 unfolding withByte
 returns c = simp (lt-ltb _ _ (c .before .before .before .if1 .taken), le-leb _ _ (c .before .before .if2 .taken), le-leb _ _ (c .before .if3 .taken), le-leb _ _ (c .if4 .taken))
@@ -40,4 +28,4 @@ returns-5 c = simp (le-ltb _ _ (c .if1 .left))
 pub with-byte-spec : {M : Type 1} → statement M
 with-byte-spec =
     tie.close
-    (tie.spec add-t9 mul-t10 sub-t12 add-t13 returns returns-2 returns-3 returns-4 returns-5)
+    (tie.spec (search needs) (search needs) (search needs) (search needs) returns returns-2 returns-3 returns-4 returns-5)

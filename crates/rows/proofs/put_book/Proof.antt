@@ -4,24 +4,6 @@ use borrow.Author.Needs.{needs}
 use Rattle.rows.proofs.put_book.Statement.{statement}
 use Rattle.rows.proofs.put_book.Tie as tie
 
-slice-aggregate-put : tie.Need-slice-aggregate-put
-slice-aggregate-put c = search needs
-
-put-requires : tie.Need-put-requires
-put-requires c κs = search needs
-
-put-number-requires : tie.Need-put-number-requires
-put-number-requires c κs = search needs
-
-put-byte-requires : tie.Need-put-byte-requires
-put-byte-requires c κs = search needs
-
-put-number-requires-2 : tie.Need-put-number-requires-2
-put-number-requires-2 c κs = search needs
-
-put-byte-requires-2 : tie.Need-put-byte-requires-2
-put-byte-requires-2 c κs = search needs
-
 returns : tie.Need-returns
 returns c =
     let b = c .before .before in
@@ -32,11 +14,4 @@ returns c =
 pub put-book-spec : {M : Type 1} → statement M
 put-book-spec =
     tie.close
-    (tie.spec
-    slice-aggregate-put
-    put-requires
-    put-number-requires
-    put-byte-requires
-    put-number-requires-2
-    put-byte-requires-2
-    returns)
+    (tie.spec (search needs) (search needs) (search needs) (search needs) (search needs) (search needs) returns)

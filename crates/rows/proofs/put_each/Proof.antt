@@ -34,29 +34,14 @@ row-put c = c .before .before .before
 front-length : (c : tie.At-loop Inv-loop μ-loop) → length (take (c .loop .k) (c .loop .front)) ≡ c .loop .k
 front-length c = let f = c .loop .inv .2 in length-take-le _ _ (omega (arith, f .short, f .within))
 
-slice-aggregate-front : tie.Need-slice-aggregate-front Inv-loop μ-loop
-slice-aggregate-front c = search needs
-
-put-front-requires : tie.Need-put-front-requires Inv-loop μ-loop
-put-front-requires c κs = search needs
-
 loop-holds : tie.Need-loop-holds Inv-loop μ-loop
 loop-holds c =
     let a = start c .args in
     let e : a .tick + 0 ≡ a .tick = omega arith in
     (rows-none _ _ _ (bitAt (a .words .now)), omega arith, rw e (c .before .before .put-front .ensures), omega arith, refl)
 
-add-t : tie.Need-add-t Inv-loop μ-loop
-add-t c = search needs
-
-slice-reshare-prefix-put-row : tie.Need-slice-reshare-prefix-put-row Inv-loop μ-loop
-slice-reshare-prefix-put-row c = search needs
-
 slice-aggregate-put-row : tie.Need-slice-aggregate-put-row Inv-loop μ-loop
 slice-aggregate-put-row c = sym (front-length (c .before .before .before))
-
-verdict-at-requires : tie.Need-verdict-at-requires Inv-loop μ-loop
-verdict-at-requires c κs = search needs
 
 put-row-requires : tie.Need-put-row-requires Inv-loop μ-loop
 put-row-requires c κs =
@@ -64,9 +49,6 @@ put-row-requires c κs =
     let s = start (l .before) in
     let i = l .loop .inv in
     (omega (arith, s .pre .0, i .1, i .4, turn c .loop-test .taken), rw (front-length l) (i .2 .short), rw (c .verdict-at .ensures) (digit-lt (bitAt (s .args .words .now) (l .loop .i))))
-
-add-renew : tie.Need-add-renew Inv-loop μ-loop
-add-renew c = search needs
 
 renew-requires : tie.Need-renew-requires Inv-loop μ-loop
 renew-requires c κs =
@@ -76,12 +58,6 @@ renew-requires c κs =
     let f = p .inv .2 in
     let e : s .args .tick + p .i + 1 - 1 ≡ s .args .tick + p .i = omega arith in
     (f .within, s .pre .1, omega arith, rw e f)
-
-add-i : tie.Need-add-i Inv-loop μ-loop
-add-i c = search needs
-
-loop-less : tie.Need-loop-less Inv-loop μ-loop
-loop-less c = search needs
 
 loop-again : tie.Need-loop-again Inv-loop μ-loop
 loop-again c =
@@ -98,9 +74,6 @@ loop-again c =
       put-length (w .put-row .ensures .0) ∙ p .inv .4,
     )
 
-same-length : tie.Need-same-length Inv-loop μ-loop
-same-length c = search needs
-
 returns : tie.Need-returns Inv-loop μ-loop
 returns c =
     let l = c .before .before in
@@ -110,21 +83,5 @@ returns c =
 pub put-each-spec : {M : Type 1} → statement M
 put-each-spec =
     tie.close
-    (tie.spec
-    Inv-loop
-    μ-loop
-    slice-aggregate-front
-    put-front-requires
-    loop-holds
-    add-t
-    slice-reshare-prefix-put-row
-    slice-aggregate-put-row
-    verdict-at-requires
-    put-row-requires
-    add-renew
-    renew-requires
-    add-i
-    loop-less
-    loop-again
-    same-length
-    returns)
+    (tie.spec Inv-loop μ-loop (search needs) (search needs) loop-holds (search needs) (search needs) slice-aggregate-put-row (search needs)
+    put-row-requires (search needs) renew-requires (search needs) (search needs) loop-again (search needs) returns)

@@ -7,15 +7,6 @@ use borrow.Author.Needs.{needs}
 use Rattle.rows.proofs.put_front.Statement.{statement}
 use Rattle.rows.proofs.put_front.Tie as tie
 
-put-requires : tie.Need-put-requires
-put-requires c κs = search needs
-
-put-byte-requires : tie.Need-put-byte-requires
-put-byte-requires c κs = search needs
-
-same-length : tie.Need-same-length
-same-length c = search needs
-
 returns : tie.Need-returns
 returns c =
     let b = c .before .before .before in
@@ -23,12 +14,6 @@ returns c =
     let s = a .before .before .before .before in
     fronted-put (s .args .name .now) (s .args .tick) (s .args .front .now) _ (b .put-byte .last .0) (b .put-byte .result) (s .pre .0) (omega (arith, a .put .ensures .place, b .put-byte .ensures .place))
     (rw (lt-ltb (s .args .tick) 10 (c .if1 .taken))) (put-then (a .put .ensures) (b .put-byte .ensures))
-
-put-number-requires : tie.Need-put-number-requires
-put-number-requires c κs = search needs
-
-same-length-2 : tie.Need-same-length-2
-same-length-2 c = search needs
 
 returns-2 : tie.Need-returns-2
 returns-2 c =
@@ -42,11 +27,4 @@ returns-2 c =
 pub put-front-spec : {M : Type 1} → statement M
 put-front-spec =
     tie.close
-    (tie.spec
-    put-requires
-    put-byte-requires
-    same-length
-    returns
-    put-number-requires
-    same-length-2
-    returns-2)
+    (tie.spec (search needs) (search needs) (search needs) returns (search needs) (search needs) returns-2)

@@ -5,18 +5,6 @@ use borrow.Author.Needs.{needs}
 use Rattle.watch.proofs.begin.Statement.{statement}
 use Rattle.watch.proofs.begin.Tie as tie
 
-simplify-requires : tie.Need-simplify-requires
-simplify-requires c κs = search needs
-
-array-copy-out-first : tie.Need-array-copy-out-first
-array-copy-out-first c = search needs
-
-open-requires : tie.Need-open-requires
-open-requires c κs = search needs
-
-start-requires : tie.Need-start-requires
-start-requires c κs = search needs
-
 returns : tie.Need-returns
 returns c =
     let o = c .before .before in
@@ -28,4 +16,4 @@ returns c =
 pub begin-spec : {M : Type 1} → statement M
 begin-spec =
     tie.close
-    (tie.spec simplify-requires array-copy-out-first open-requires start-requires returns)
+    (tie.spec (search needs) (search needs) (search needs) (search needs) returns)

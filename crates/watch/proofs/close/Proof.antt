@@ -9,9 +9,6 @@ use borrow.Author.Needs.{needs}
 use Rattle.watch.proofs.close.Statement.{statement}
 use Rattle.watch.proofs.close.Tie as tie
 
-close-requires : tie.Need-close-requires
-close-requires c κs = search needs
-
 -- the entry, seen from the call of close
 abbrev start : tie.After-close-arg3 → tie.Start
 start c = c .before .before .before .before
@@ -33,9 +30,6 @@ returns c =
     let a = s .args in
     close-never (a .p) (a .history .now) (a .scratch .now) (a .out .now) (l .close .result) _ _ (l .close .ensures) (z .0) (z .1) (z .2) [] (c .if1 .taken)
 
-put-rows-requires : tie.Need-put-rows-requires
-put-rows-requires c κs = search needs
-
 returns-2 : tie.Need-returns-2
 returns-2 c =
     let l = c .before .before .before .before .before in
@@ -45,4 +39,4 @@ returns-2 c =
     close-always (a .p) (a .history .now) (a .scratch .now) (a .out .now) (l .close .result) _ _ (l .close .ensures) (z .0) (z .1) (z .2) _ _ _ (c .put-rows .ensures)
 
 pub close-spec : {M : Type 1} → statement M
-close-spec = tie.close (tie.spec close-requires returns put-rows-requires returns-2)
+close-spec = tie.close (tie.spec (search needs) returns (search needs) returns-2)

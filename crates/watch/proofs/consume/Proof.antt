@@ -33,15 +33,6 @@ loop-holds c =
     let a = s .args in
     (s .pre .0, s .pre .1, through-none (a .first) (a .part .now) (a .history .now) (a .block .now))
 
-step-requires : tie.Need-step-requires Inv-loop μ-loop
-step-requires c κs = search needs
-
-write-requires : tie.Need-write-requires Inv-loop μ-loop
-write-requires c κs = search needs
-
-ended-requires : tie.Need-ended-requires Inv-loop μ-loop
-ended-requires c κs = search needs
-
 -- the block keeps its length
 kept : (c : tie.After-step Inv-loop μ-loop) → length (c .step .last .1 .1 .1 .0) ≡ 1024
 kept c = search (needs, turn c .before .loop .inv .1)
@@ -89,18 +80,5 @@ returns-3 c =
 pub consume-spec : {M : Type 1} → statement M
 consume-spec =
     tie.close
-    (tie.spec
-    Inv-loop
-    μ-loop
-    loop-holds
-    step-requires
-    write-requires
-    ended-requires
-    same-length
-    returns
-    same-length-2
-    returns-2
-    loop-less
-    loop-again
-    same-length-3
-    returns-3)
+    (tie.spec Inv-loop μ-loop loop-holds (search needs) (search needs) (search needs) same-length returns same-length-2 returns-2 loop-less loop-again
+    same-length-3 returns-3)

@@ -26,12 +26,6 @@ sizes c =
 slice-aggregate-feed : tie.Need-slice-aggregate-feed
 slice-aggregate-feed c = sym (length-take-le _ _ (let s = c .before .before .before .before .pre in omega (arith, s .0, s .2)))
 
-feed-requires : tie.Need-feed-requires
-feed-requires c κs = search needs
-
-put-feed-requires : tie.Need-put-feed-requires
-put-feed-requires c κs = search needs
-
 returns : tie.Need-returns
 returns c =
     let t = c .before .before in
@@ -41,9 +35,6 @@ returns c =
     let a = s .args in
     fed-refused (a .p) (a .at) (a .history .now) (a .block .now) (a .scratch .now) (a .out .now) (f .feed .result) _ _ _ (a .text .now) (c .put-feed .last .0) (c .put-feed .result)
     (f .feed .ensures) (s .pre .0) (s .pre .1) (s .pre .2) (z .0) (z .1) (z .2) (t .if1 .taken) (c .put-feed .ensures)
-
-put-rows-requires : tie.Need-put-rows-requires
-put-rows-requires c κs = search needs
 
 add-t28 : tie.Need-add-t28
 add-t28 c =
@@ -68,11 +59,4 @@ returns-2 c =
 pub feed-spec : {M : Type 1} → statement M
 feed-spec =
     tie.close
-    (tie.spec
-    slice-aggregate-feed
-    feed-requires
-    put-feed-requires
-    returns
-    put-rows-requires
-    add-t28
-    returns-2)
+    (tie.spec slice-aggregate-feed (search needs) (search needs) returns (search needs) add-t28 returns-2)

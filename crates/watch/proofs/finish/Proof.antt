@@ -24,15 +24,6 @@ written c = c .before .before .before
 abbrev closing : tie.After-write2 → tie.Else3
 closing c = c .before .before .before .before .before .before .before .before
 
-last-line-requires : tie.Need-last-line-requires
-last-line-requires c κs = search needs
-
-same-length : tie.Need-same-length
-same-length c = search needs
-
-returns : tie.Need-returns
-returns c = search needs
-
 -- the block keeps its length
 kept : (c : tie.After-last-line) → length (c .last-line .last .1 .0) ≡ 1024
 kept c = search (needs, start c .pre .1)
@@ -44,49 +35,13 @@ feed-requires c κs =
     let r = l .last-line .ensures .ready (not-false _ (e .if1 .left)) in
     (omega (arith, r .room), r .ticks, kept l)
 
-write-requires : tie.Need-write-requires
-write-requires c κs = search needs
-
-same-length-2 : tie.Need-same-length-2
-same-length-2 c = search needs
-
-returns-2 : tie.Need-returns-2
-returns-2 c = search needs
-
-same-length-3 : tie.Need-same-length-3
-same-length-3 c = search needs
-
-returns-3 : tie.Need-returns-3
-returns-3 c = search needs
-
-close-requires : tie.Need-close-requires
-close-requires c κs = search needs
-
-write-requires-2 : tie.Need-write-requires-2
-write-requires-2 c κs = search needs
-
 same-length-4 : tie.Need-same-length-4
 same-length-4 c =
     let l = going (feeding (written (closing c))) .before .before .before .before in
     kept l ∙ sym (start l .pre .1)
 
-returns-4 : tie.Need-returns-4
-returns-4 c = search needs
-
 pub finish-spec : {M : Type 1} → statement M
 finish-spec =
     tie.close
-    (tie.spec
-    last-line-requires
-    same-length
-    returns
-    feed-requires
-    write-requires
-    same-length-2
-    returns-2
-    same-length-3
-    returns-3
-    close-requires
-    write-requires-2
-    same-length-4
-    returns-4)
+    (tie.spec (search needs) (search needs) (search needs) feed-requires (search needs) (search needs) (search needs) (search needs) (search needs)
+    (search needs) (search needs) same-length-4 (search needs))

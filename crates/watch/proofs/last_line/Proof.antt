@@ -16,33 +16,12 @@ begun c = c .before .before .before .before .before .before .before
 abbrev stepped : tie.After-write → tie.After-step
 stepped c = c .before .before .before .before .before .before
 
-returns : tie.Need-returns
-returns c = search needs
-
-slice-aggregate-step : tie.Need-slice-aggregate-step
-slice-aggregate-step c = search needs
-
-step-requires : tie.Need-step-requires
-step-requires c κs = search needs
-
-write-requires : tie.Need-write-requires
-write-requires c κs = search needs
-
-same-length : tie.Need-same-length
-same-length c = search needs
-
 returns-2 : tie.Need-returns-2
 returns-2 c =
     let o = stepped (c .before) in
     let e = begun o in
     let a = start e .args in
     complete-step (a .p) (a .history .now) (a .block .now) _ _ _ (o .step .result) (e .if1 .left) (o .step .ensures)
-
-ended-requires : tie.Need-ended-requires
-ended-requires c κs = search needs
-
-same-length-2 : tie.Need-same-length-2
-same-length-2 c = search needs
 
 returns-3 : tie.Need-returns-3
 returns-3 c =
@@ -53,13 +32,4 @@ returns-3 c =
 pub last-line-spec : {M : Type 1} → statement M
 last-line-spec =
     tie.close
-    (tie.spec
-    returns
-    slice-aggregate-step
-    step-requires
-    write-requires
-    same-length
-    returns-2
-    ended-requires
-    same-length-2
-    returns-3)
+    (tie.spec (λ c. search needs) (search needs) (search needs) (search needs) (search needs) returns-2 (search needs) (search needs) returns-3)

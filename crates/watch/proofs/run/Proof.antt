@@ -34,27 +34,6 @@ counted c = c .before .before .before .before .before .before .before
 abbrev consumed : tie.After-struct-known Inv-loop μ-loop → tie.After-consume Inv-loop μ-loop
 consumed c = c .before .before .before
 
-large-buffer-requires : tie.Need-large-buffer-requires Inv-loop μ-loop
-large-buffer-requires c κs = search needs
-
-loop-holds : tie.Need-loop-holds Inv-loop μ-loop
-loop-holds c = search needs
-
-slice-aggregate-read : tie.Need-slice-aggregate-read Inv-loop μ-loop
-slice-aggregate-read c = search needs
-
-read-requires : tie.Need-read-requires Inv-loop μ-loop
-read-requires c κs = search needs
-
-slice-aggregate-fail : tie.Need-slice-aggregate-fail Inv-loop μ-loop
-slice-aggregate-fail c = search needs
-
-fail-requires : tie.Need-fail-requires Inv-loop μ-loop
-fail-requires c κs = search needs
-
-ended-requires : tie.Need-ended-requires Inv-loop μ-loop
-ended-requires c κs = search needs
-
 -- the block and the buffer keep their lengths
 same : (c : tie.At-loop Inv-loop μ-loop) → length (c .loop .block) ≡ length (start c .args .block .now)
 same c = c .loop .inv .1 ∙ sym (start c .pre .1)
@@ -76,21 +55,6 @@ same-length-2 c = same (turn (c .before .before) .before)
 
 returns-2 : tie.Need-returns-2 Inv-loop μ-loop
 returns-2 c e = turn (c .before .before) .before .loop .inv .0
-
-slice-aggregate-count : tie.Need-slice-aggregate-count Inv-loop μ-loop
-slice-aggregate-count c = search needs
-
-count-requires : tie.Need-count-requires Inv-loop μ-loop
-count-requires c κs = search needs
-
-array-share-prefix-buf : tie.Need-array-share-prefix-buf Inv-loop μ-loop
-array-share-prefix-buf c = search needs
-
-slice-aggregate-consume : tie.Need-slice-aggregate-consume Inv-loop μ-loop
-slice-aggregate-consume c = search needs
-
-consume-requires : tie.Need-consume-requires Inv-loop μ-loop
-consume-requires c κs = search needs
 
 same-length-3 : tie.Need-same-length-3 Inv-loop μ-loop
 same-length-3 c =
@@ -127,30 +91,6 @@ returns-4 c e = c .before .loop .inv .0
 pub run-spec : {M : Type 1} → statement M
 run-spec =
     tie.close
-    (tie.spec
-    Inv-loop
-    μ-loop
-    large-buffer-requires
-    loop-holds
-    slice-aggregate-read
-    read-requires
-    slice-aggregate-fail
-    fail-requires
-    ended-requires
-    same-length
-    returns
-    same-length-2
-    returns-2
-    slice-aggregate-count
-    count-requires
-    array-share-prefix-buf
-    slice-aggregate-consume
-    consume-requires
-    same-length-3
-    returns-3
-    add-next
-    sub-rounds
-    loop-less
-    loop-again
-    same-length-4
-    returns-4)
+    (tie.spec Inv-loop μ-loop (search needs) (search needs) (search needs) (search needs) (search needs) (search needs) (search needs) same-length
+    returns same-length-2 returns-2 (search needs) (search needs) (search needs) (search needs) (search needs) same-length-3 returns-3 add-next
+    sub-rounds loop-less loop-again same-length-4 returns-4)

@@ -23,17 +23,8 @@ few c =
     let q = c .fill in
     few-lines (a .p) (a .part .now) (a .at) (a .history .now) (a .block .now) (s .pre .0) (s .pre .1) (q .result) (q .last .1 .1 .1 .0) (q .ensures .0) (q .ensures .1)
 
-fill-requires : tie.Need-fill-requires
-fill-requires c κs = search needs
-
 add-put-bad-line : tie.Need-add-put-bad-line
 add-put-bad-line c = search (needs, few (filled (c .before .before)))
-
-put-bad-line-requires : tie.Need-put-bad-line-requires
-put-bad-line-requires c κs = search needs
-
-same-length : tie.Need-same-length
-same-length c = search needs
 
 returns : tie.Need-returns
 returns c =
@@ -43,9 +34,6 @@ returns c =
     let a = s .args in
     let q = f .fill in
     bad-step (a .p) (a .part .now) (a .at) (a .history .now) (a .block .now) (s .pre .0) (s .pre .1) (q .result) (q .last .1 .1 .1 .0) (q .ensures .0) (q .ensures .1) (a .text .now) _ _ (t .if1 .taken) (c .put-bad-line .ensures)
-
-same-length-2 : tie.Need-same-length-2
-same-length-2 c = search needs
 
 returns-2 : tie.Need-returns-2
 returns-2 c =
@@ -64,9 +52,6 @@ feed-requires c κs =
     let q = f .fill in
     (few f, s .pre .0 .ticks, block-size (a .p) (a .part .now) (a .at) (a .history .now) (a .block .now) (s .pre .0) (s .pre .1) (q .result) (q .last .1 .1 .1 .0) (q .ensures .0) (q .ensures .1))
 
-same-length-3 : tie.Need-same-length-3
-same-length-3 c = search needs
-
 returns-3 : tie.Need-returns-3
 returns-3 c =
     let w = full (c .before) in
@@ -80,14 +65,4 @@ returns-3 c =
 pub step-spec : {M : Type 1} → statement M
 step-spec =
     tie.close
-    (tie.spec
-    fill-requires
-    add-put-bad-line
-    put-bad-line-requires
-    same-length
-    returns
-    same-length-2
-    returns-2
-    feed-requires
-    same-length-3
-    returns-3)
+    (tie.spec (search needs) add-put-bad-line (search needs) (search needs) returns (search needs) returns-2 feed-requires (search needs) returns-3)

@@ -15,9 +15,6 @@ Inv-loop ring cells₀ n count least c₀ k₀ cells c k = (length cells ≡ len
 abbrev μ-loop : tie.MeasureT-loop
 μ-loop ring cells₀ n count least c₀ k₀ cells c k = k
 
-held-at-requires : tie.Need-held-at-requires Inv-loop μ-loop
-held-at-requires c κs = search needs
-
 put-requires : tie.Need-put-requires Inv-loop μ-loop
 put-requires c κs = let l = c .before .before .before .loop .inv .0 in omega arith
 
@@ -35,4 +32,5 @@ returns c = let l = c .before .loop in put-all (l .inv .3) (omega arith)
 pub apply-spec : {M : Type 1} → statement M
 apply-spec =
     tie.close
-    (tie.spec Inv-loop μ-loop (search needs) (λ c. (refl, search needs, omega arith, put-none)) (search needs) held-at-requires put-requires (search needs) loop-again (λ c. c .before .loop .inv .0) returns)
+    (tie.spec Inv-loop μ-loop (search needs) (λ c. (refl, search needs, omega arith, put-none)) (search needs) (search needs) put-requires
+    (search needs) loop-again (λ c. c .before .loop .inv .0) returns)
