@@ -4,7 +4,7 @@ mod Stream
 mod Effects
 -- every list keeps the claim
 pub mod Listed
--- no change, another measure
-pub mod Corollaries
+-- lists without changes
+pub mod WithoutChanges
 -- the list worked by hand
 mod Example

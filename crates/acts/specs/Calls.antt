@@ -1,4 +1,4 @@
--- Lists of calls on one session, and what is claimed of them (the third demand, with A4, A5, A12).
+-- Lists of calls on one session, and what is claimed of them (the third demand, with A4, A12).
 use Prim.Native.Nat.{ℕ, _+_, _-_, _≤_, _<_, min, max}
 use mathlib.Core.Path.{_≡_}
 use mathlib.Core.Logic.{_↔_, _⊎_}

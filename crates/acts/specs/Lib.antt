@@ -6,7 +6,7 @@ pub mod Claim
 pub mod Calls
 -- the demand as one statement
 pub mod Demand
--- what follows: no change, another measure
-pub mod Corollaries
+-- lists without changes
+pub mod WithoutChanges
 -- formulas as a world, and a list worked by hand
 pub mod Example

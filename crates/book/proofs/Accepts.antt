@@ -10,13 +10,16 @@ use lib.Dec.{eqb}
 use lib.ListN.{length}
 use Rattle.lists.specs.Choice.{pick}
 use Rattle.lists.proofs.Tests.{true-left, true-right, _also_}
+use Rattle.mltl.specs.Mltl.{oldDelay}
+use Rattle.mltl.proofs.Delays.{delay-sooner}
+use Rattle.table.specs.Nodes.{formulaOver, formulas}
 use Rattle.book.specs.declared.Entry.{Entry}
 use Rattle.book.specs.declared.Walk.{Walk}
 use Rattle.book.specs.declared.Reading.{Reading}
 use Rattle.book.specs.Entries.{entryOf, badLength, badHead}
 use Rattle.book.specs.Code.Steps.{entered, added, begun}
-use Rattle.book.specs.Reading.{refused, accepted, unless, isRuleAt, rulesIn, rules, tableOf, fault, headFault, finished, along, reading}
-use Rattle.book.specs.Keeps.{Size, Head, Linked, Along, over, on, Keeps}
+use Rattle.book.specs.Reading.{refused, accepted, unless, isRuleAt, nodesIn, rulesIn, nodeOf, nodes, rules, tableOf, fault, headFault, finished, along, reading}
+use Rattle.book.specs.Keeps.{Size, Head, Linked, KeptBy, AlongBy, over, on, KeepsBy, Kept, Along, Keeps, StaysKept}
 use Rattle.book.proofs.Tests.{Sized, head-clear}
 use Rattle.book.proofs.Among.{collect-length}
 use Rattle.book.proofs.Going.{At, fuelled, starts, further}
@@ -150,3 +153,31 @@ module _ (s : List ℕ) where
   -- THE LAW: accepted, exactly where the rules are kept
   pub accepted-exactly : (reading s .number ≡ 0) ↔ Keeps s
   accepted-exactly = (accepted-keeps, λ k. ap (λ (x : Reading). x .number) (keeps-accepted k))
+
+-- ---- when the delay was the one before A5
+module _ (s : List ℕ) where
+  entry-stays : {before : List ℕ} {r : ℕ} → KeptBy oldDelay s before r (entryOf s r) → Kept s before r (entryOf s r)
+  entry-stays {before} {r} k = record {
+    linked = k .linked;
+    formed = k .formed;
+    signal = k .signal;
+    name = k .name;
+    ordered = k .ordered;
+    limited = k .limited;
+    left = k .left;
+    right = k .right;
+    node-room = k .node-room;
+    rule-room = k .rule-room;
+    delay = λ u. omega (arith, k .delay u, delay-sooner (formulaOver (formulas (nodes s before)) (nodeOf (nodesIn s before) (entryOf s r))));
+    own = k .own;
+  }
+
+  along-stays : {before : List ℕ} {r : ℕ} {chain : List ℕ} → AlongBy oldDelay s before r chain → Along s before r chain
+  along-stays over = over
+  along-stays (on n k l) = on n (entry-stays k) (along-stays l)
+
+  abbrev still-keeps : KeepsBy oldDelay s → Keeps s
+  still-keeps k = record { size = k .size; head = k .head; linked = k .linked; chain = k .chain; along = along-stays (k .along); ruled = k .ruled }
+
+  pub stays-kept : (k : KeepsBy oldDelay s) → StaysKept s k
+  stays-kept k = record { keeps = still-keeps k; read = keeps-accepted s (still-keeps k) }

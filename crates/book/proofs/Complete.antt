@@ -15,12 +15,12 @@ use Rattle.lists.specs.Choice.{pick}
 use Rattle.lists.specs.Sequence.{among, ticks, padded}
 use Rattle.lists.proofs.Tests.{lt-or-le}
 use Rattle.lists.proofs.Sequences.{length-ticks, getD-ticks, padded-is}
-use Rattle.mltl.specs.Mltl.{delay}
-use Rattle.table.specs.Nodes.{opOf, usesOf, noNode, noRule, nodeAt, ruleAt, formulas, delayOver, delays}
+use Rattle.mltl.specs.Mltl.{Formula, delay}
+use Rattle.table.specs.Nodes.{opOf, usesOf, noNode, noRule, nodeAt, ruleAt, formulaOver, formulas}
 use Rattle.table.specs.Sound.{NodeFits, RuleFits, Sound}
 use Rattle.table.specs.declared.Node.{Node}
 use Rattle.table.specs.declared.Table.{Table}
-use Rattle.table.proofs.Delays.{formula-at, delay-of}
+use Rattle.table.proofs.Delays.{formula-at}
 use Rattle.table.proofs.Soundness.{field-below}
 use Rattle.builder.proofs.Sound.{uses-arg}
 use Rattle.book.specs.declared.Entry.{Entry}
@@ -100,11 +100,11 @@ module _ (t : Table) (z : Sound t) where
   used : (k : ℕ) → k < n → usesOf (opOf (nodeAt t k .kind)) ≡ usesIn (nodeAt t k .kind)
   used k h = node-uses (nodeAt t k .kind) (fits k h .node)
 
-  node-short : (k : ℕ) → k < n → delayOver (delays (take k (t .nodes))) (nodeAt t k) ≤ 4095
+  node-short : (k : ℕ) → k < n → delay (formulaOver (formulas (take k (t .nodes))) (nodeAt t k)) ≤ 4095
   unfolding n
   node-short k h =
       let l : k < length (t .nodes) = omega (arith, z .few-nodes, z .places) in
-      subst (λ (d : ℕ). d ≤ 4095) (ap delay (formula-at (t .nodes) k l) ∙ delay-of (formulas (take k (t .nodes))) (nodeAt t k)) (z .short k h)
+      subst (λ (f : Formula). delay f ≤ 4095) (formula-at (t .nodes) k l) (z .short k h)
 
   -- ---- the lists of the first c records: i nodes, and j rules
   abbrev ruleNumber : ℕ → ℕ
@@ -238,8 +238,8 @@ module _ (t : Table) (z : Sound t) where
         right = λ v. earlier-iff s (ups (suc k)) _ .0 (rw (v, l .nodes-in) (among-records (x .right) k ∙ lt-ltb (x .right) k ((rw u at (f .right .limited)) v)));
         node-room = λ v. rw (l .nodes-in, length-listed suc k) (omega (arith, z .few-nodes));
         rule-room = λ v. absurd (omega (arith, f .node));
-        delay = λ v. subst (λ (d : ℕ). d ≤ 4095)
-            (sym (ap (λ (y : Node). delayOver (delays (nodes s (ups (suc k)))) y) (node-from k h l) ∙ ap (λ (y : List Node). delayOver (delays y) x) (l .nodes-are)))
+        delay = λ v. subst (λ (f : Formula). delay f ≤ 4095)
+            (sym (ap (λ (y : Node). formulaOver (formulas (nodes s (ups (suc k)))) y) (node-from k h l) ∙ ap (λ (y : List Node). formulaOver (formulas y) x) (l .nodes-are)))
             (node-short k h);
         own = λ v q i j p. omega (arith, f .node);
       }

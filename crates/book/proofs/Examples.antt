@@ -3,7 +3,7 @@ use mathlib.Core.Path.{_≡_, refl}
 use mathlib.Core.List.{List, [], _∷_}
 use Prim.Native.Nat.{ℕ, _+_, _*_}
 use Rattle.lists.specs.Sequence.{chain, padded}
-use Rattle.mltl.specs.Mltl.{delay}
+use Rattle.mltl.specs.Mltl.{delayBy}
 use Rattle.table.specs.Nodes.{noNode, noRule}
 use Rattle.table.specs.declared.Table.{Table}
 use Rattle.book.specs.declared.Entry.{Entry}
@@ -33,7 +33,7 @@ ownTable = record {
 }
 
 own-book : reading (book (finally 1 3) 7 2 0) ≡ accepted ownTable
-unfolding reading headFault fault along usesIn chain delay
+unfolding reading headFault fault along usesIn chain delayBy
 own-book = refl
 
 own-written : bookOf ownTable ≡ book (finally 1 3) 7 2 0
@@ -42,21 +42,21 @@ own-written = refl
 
 -- ---- the corners of document 01
 delay-4095 : codeOf (reading (book (finally 0 4095) 7 2 0)) ≡ 0
-unfolding reading headFault fault along usesIn chain delay
+unfolding reading headFault fault along usesIn chain delayBy
 delay-4095 = refl
 
 -- F[0,1] over F[0,4095]
 delay-4096 : codeOf (reading (bytes (headEntry 1 ∷ entry 1 0 0 0 0 0 2 ∷ finally 0 4095 ∷ entry 7 0 0 1 2 0 4 ∷ entry 11 7 0 0 3 0 0 ∷ []))) ≡ 9 + 256 * 3
-unfolding reading headFault fault along usesIn chain delay
+unfolding reading headFault fault along usesIn chain delayBy
 delay-4096 = refl
 
 -- a record above 0 whose next is its own number, and a kind that is no kind too: 3 comes before 4
 itself : codeOf (reading (book (finally 1 3) 7 2 3)) ≡ 3 + 256 * 3
-unfolding reading headFault fault along usesIn chain delay
+unfolding reading headFault fault along usesIn chain delayBy
 itself = refl
 
 itself-first : codeOf (reading (book (entry 12 0 0 0 0 0 2) 7 1 0)) ≡ 3 + 256 * 2
-unfolding reading headFault fault along usesIn chain delay
+unfolding reading headFault fault along usesIn chain delayBy
 itself-first = refl
 
 -- ---- one book for each other number
@@ -69,26 +69,26 @@ unfolding reading headFault
 head-set = refl
 
 kind-12 : codeOf (reading (book (entry 12 0 0 0 0 0 3) 7 1 0)) ≡ 4 + 256 * 2
-unfolding reading headFault fault along usesIn chain delay
+unfolding reading headFault fault along usesIn chain delayBy
 kind-12 = refl
 
 no-name : codeOf (reading (book (finally 1 3) 0 2 0)) ≡ 5 + 256 * 3
-unfolding reading headFault fault along usesIn chain delay
+unfolding reading headFault fault along usesIn chain delayBy
 no-name = refl
 
 upside-down : codeOf (reading (book (finally 3 1) 7 2 0)) ≡ 6 + 256 * 2
-unfolding reading headFault fault along usesIn chain delay
+unfolding reading headFault fault along usesIn chain delayBy
 upside-down = refl
 
 watches-itself : codeOf (reading (book (finally 1 3) 7 3 0)) ≡ 7 + 256 * 3
-unfolding reading headFault fault along usesIn chain delay
+unfolding reading headFault fault along usesIn chain delayBy
 watches-itself = refl
 
 -- a rule may stand between nodes; its name is used again
 name-twice : codeOf (reading (book (entry 11 7 0 0 1 0 3) 7 1 0)) ≡ 10 + 256 * 3
-unfolding reading headFault fault along usesIn chain delay
+unfolding reading headFault fault along usesIn chain delayBy
 name-twice = refl
 
 no-rule : codeOf (reading (bytes (headEntry 1 ∷ entry 2 0 0 0 0 0 0 ∷ []))) ≡ 11
-unfolding reading headFault fault along usesIn chain delay
+unfolding reading headFault fault along usesIn chain delayBy
 no-rule = refl

@@ -1,9 +1,9 @@
 -- A record has no fault exactly where it keeps the rules. Assumes nothing.
-use mathlib.Core.Path.{_≡_, refl, sym, ap, _∙_}
+use mathlib.Core.Path.{_≡_, refl, sym, ap, subst, _∙_}
 use mathlib.Core.Bool.{true, false, _&&_, _||_, not}
 use mathlib.Core.List.{List, [], _∷_, _++_, List·Memᴰ}
 use mathlib.Core.Logic.{_↔_}
-use Prim.Native.Nat.{ℕ, _*_}
+use Prim.Native.Nat.{ℕ, _*_, _≤_}
 use native.Mathlib.Omega.{arith}
 use borrow.Author.Tests.{ltb-false, leb-true, leb-false, eqb-true, eqb-false, not-false, not-true, ne-eqb, le-leb, lt-leb, eq-eqb, le-ltb}
 use lib.Dec.{ltb, leb, eqb}
@@ -11,7 +11,9 @@ use lib.ListN.{length, getD}
 use Rattle.lists.specs.Choice.{_if_, first}
 use Rattle.lists.specs.Sequence.{among}
 use Rattle.lists.proofs.Tests.{or-left, or-right, and-right, true-left, true-right, or-other, _also_}
-use Rattle.table.specs.Nodes.{delayOver, delays}
+use Rattle.mltl.specs.Mltl.{delay}
+use Rattle.table.specs.Nodes.{formulaOver, formulas, delayOver, delays}
+use Rattle.table.proofs.Delays.{delay-of}
 use Rattle.book.specs.declared.Entry.{Entry}
 use Rattle.interval.specs.Parts.{badInterval}
 use Rattle.book.specs.Entries.{entryOf, usesIn, isNode, isRule, nameOf, formed, badForm, badArg}
@@ -94,6 +96,9 @@ module _ (s before : List ℕ) where
     abbrev ps : List ℕ
     ps = nodesIn s before
 
+    delay-is : delay (formulaOver (formulas (nodes s before)) (nodeOf ps e)) ≡ delayOver (delays (nodes s before)) (nodeOf ps e)
+    delay-is = delay-of (formulas (nodes s before)) (nodeOf ps e)
+
     pub kept : first (rows s before r e) ≡ 0 → Kept s before r e
     kept h =
         let no : (i : ℕ) → getD (rows s before r e) i (0 if false) .test ≡ false = no-row (rows s before r e) refl h in
@@ -119,7 +124,7 @@ module _ (s before : List ℕ) where
           node-room = λ u. leb-false 64 (length ps) (and-right (isNode (e .kind)) _ (or-left _ _ count) (node u));
           rule-room = λ u.
               leb-false 8 (length (rulesIn s before)) (and-right (isRule (e .kind)) _ (or-right (isNode (e .kind) && leb 64 (length ps)) _ count) (rule u));
-          delay = λ u. ltb-false 4095 (delayOver (delays (nodes s before)) (nodeOf ps e)) (and-right (isNode (e .kind)) _ (no 6) (node u));
+          delay = λ u. subst (λ (d : ℕ). d ≤ 4095) (sym delay-is) (ltb-false 4095 (delayOver (delays (nodes s before)) (nodeOf ps e)) (and-right (isNode (e .kind)) _ (no 6) (node u)));
           own = λ u q m k p.
               none-named (λ x. nameOf (entryOf s x)) (nameOf e) (rulesIn s before) (and-right (isRule (e .kind)) _ (no 7) (rule u)) q (rule-among q m k) p;
         }
@@ -139,7 +144,7 @@ module _ (s before : List ℕ) where
         neither (not-and (isNode (e .kind)) (λ u. lt-leb 64 (length ps) (k .node-room (node-iff (e .kind) .0 u))))
         (not-and (isRule (e .kind)) (λ u. lt-leb 8 (length (rulesIn s before)) (k .rule-room (eqb-true (e .kind) 11 u)))) in
         let delay : delayFault s before e ≡ false =
-        not-and (isNode (e .kind)) (λ u. le-ltb 4095 (delayOver (delays (nodes s before)) (nodeOf ps e)) (k .delay (node-iff (e .kind) .0 u))) in
+        not-and (isNode (e .kind)) (λ u. le-ltb 4095 (delayOver (delays (nodes s before)) (nodeOf ps e)) (subst (λ (d : ℕ). d ≤ 4095) delay-is (k .delay (node-iff (e .kind) .0 u)))) in
         let name : nameFault s before e ≡ false =
         not-and (isRule (e .kind)) (λ u. named-none (λ x. nameOf (entryOf s x)) (nameOf e) (rulesIn s before) λ q m.
         let a = among-rule q m in

@@ -1,5 +1,5 @@
 -- The table of an accepted book of bytes is sound, and that of a refused book is all zeros. Assumes nothing.
-use mathlib.Core.Path.{_≡_, refl, sym, ap, _∙_}
+use mathlib.Core.Path.{_≡_, refl, sym, ap, subst, _∙_}
 use mathlib.Core.Bool.{Bool, true, false}
 use mathlib.Core.List.{List, [], _∷_, _++_, append-nil, append-assoc}
 use mathlib.Core.Logic.{⊎-elim}
@@ -12,7 +12,8 @@ use Rattle.lists.specs.Choice.{pick}
 use Rattle.lists.specs.Sequence.{among}
 use Rattle.lists.proofs.Tests.{lt-or-le, and-right}
 use Rattle.lists.proofs.Rows.{no-row}
-use Rattle.table.specs.Nodes.{noTable}
+use Rattle.table.specs.Nodes.{noTable, formulas}
+use Rattle.table.proofs.Delays.{delay-of}
 use Rattle.table.specs.Sound.{NodeFits, Sound}
 use Rattle.table.specs.declared.Rule.{Rule}
 use Rattle.table.specs.declared.Uses.{Uses}
@@ -83,7 +84,7 @@ module _ (s : List ℕ) (bytes : Bytes s) (head : Head (entryOf s 0)) where
     more-node n =
         let w = node-iff (e .kind) .0 n in
         rw (collect-in (isNodeAt s) (nodeIn s) before r n, collect-out (isRuleAt s) (ruleIn s) before r (node-no-rule (e .kind) n))
-        (good-node (nodes s before) (rules s before) (nodeOf ps e) g (omega (arith, k .node-room w, count)) (node-fits (w .high)) (k .delay w))
+        (good-node (nodes s before) (rules s before) (nodeOf ps e) g (omega (arith, k .node-room w, count)) (node-fits (w .high)) (subst (λ (d : ℕ). d ≤ 4095) (delay-of (formulas (nodes s before)) (nodeOf ps e)) (k .delay w)))
 
     module _ (n : isNodeAt s r ≡ false) where
       eleven : e .kind ≡ 11

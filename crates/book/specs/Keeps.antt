@@ -1,15 +1,16 @@
 -- The rules that a book keeps, each as a statement, without an order of checks. A book is accepted exactly where it keeps them
--- (proofs/Accepts.antt).
+-- (proofs/Accepts.antt). `wait` is a measure of how many states a verdict waits for.
 use Prim.Native.Nat.{ℕ, _+_, _*_, _≤_, _<_}
 use mathlib.Core.Path.{_≡_}
 use mathlib.Core.Bool.{true, false}
 use mathlib.Core.List.{List, [], _∷_, _++_, List·Memᴰ}
 use lib.ListN.{length}
 use Rattle.limits.specs.Limits.{maxNodes, maxRules, maxSignal, maxInterval, maxDelay, recordBytes, maxRecords}
-use Rattle.table.specs.Nodes.{delayOver, delays}
+use Rattle.mltl.specs.Mltl.{Formula, delay, oldDelay}
+use Rattle.table.specs.Nodes.{formulaOver, formulas}
 use Rattle.book.specs.declared.Entry.{Entry}
 use Rattle.book.specs.Entries.{entryOf, usesIn, nameOf}
-use Rattle.book.specs.Reading.{nodesIn, rulesIn, nodeOf, nodes}
+use Rattle.book.specs.Reading.{nodesIn, rulesIn, nodeOf, nodes, tableOf, accepted, reading}
 
 -- 1: 1 to 255 records of 12 bytes
 pub record Size (n : ℕ) : Type 0 where
@@ -59,7 +60,7 @@ pub record EarlierNode (s before : List ℕ) (q : ℕ) : Type 0 where
   pub node : NodeKind (entryOf s q .kind)
 
 -- the record r holds e, and the records before it on the chain are these, the head first
-pub record Kept (s before : List ℕ) (r : ℕ) (e : Entry) : Type 0 where
+pub record KeptBy (wait : Formula → ℕ) (s before : List ℕ) (r : ℕ) (e : Entry) : Type 0 where
   pub linked : Linked s (before ++ (r ∷ [])) (e .next)
   pub formed : Formed e
   -- 5
@@ -75,21 +76,36 @@ pub record Kept (s before : List ℕ) (r : ℕ) (e : Entry) : Type 0 where
   pub node-room : NodeKind (e .kind) → length (nodesIn s before) < maxNodes
   pub rule-room : e .kind ≡ 11 → length (rulesIn s before) < maxRules
   -- 9
-  pub delay : NodeKind (e .kind) → delayOver (delays (nodes s before)) (nodeOf (nodesIn s before) e) ≤ maxDelay
+  pub delay : NodeKind (e .kind) → wait (formulaOver (formulas (nodes s before)) (nodeOf (nodesIn s before) e)) ≤ maxDelay
   -- 10: no earlier rule has the name
   pub own : e .kind ≡ 11 → (q : ℕ) → List·Memᴰ q before → entryOf s q .kind ≡ 11 → ¬ (nameOf (entryOf s q) ≡ nameOf e)
 
 -- from the record r on, the chain goes along the records of the list, to its end, and each keeps the rules
-pub data Along (s : List ℕ) : List ℕ → ℕ → List ℕ → Type 0 where
-  over : {before : List ℕ} → Along s before 0 []
-  on : {before rest : List ℕ} {r : ℕ} → ¬ (r ≡ 0) → Kept s before r (entryOf s r)
-      → Along s (before ++ (r ∷ [])) (entryOf s r .next) rest → Along s before r (r ∷ rest)
+pub data AlongBy (wait : Formula → ℕ) (s : List ℕ) : List ℕ → ℕ → List ℕ → Type 0 where
+  over : {before : List ℕ} → AlongBy wait s before 0 []
+  on : {before rest : List ℕ} {r : ℕ} → ¬ (r ≡ 0) → KeptBy wait s before r (entryOf s r)
+      → AlongBy wait s (before ++ (r ∷ [])) (entryOf s r .next) rest → AlongBy wait s before r (r ∷ rest)
 
-pub record Keeps (s : List ℕ) : Type 0 where
+pub record KeepsBy (wait : Formula → ℕ) (s : List ℕ) : Type 0 where
   pub size : Size (length s)
   pub head : Head (entryOf s 0)
   pub linked : Linked s (0 ∷ []) (entryOf s 0 .next)
   pub chain : List ℕ
-  pub along : Along s (0 ∷ []) (entryOf s 0 .next) chain
+  pub along : AlongBy wait s (0 ∷ []) (entryOf s 0 .next) chain
   -- 11
   pub ruled : 1 ≤ length (rulesIn s chain)
+
+-- ---- by the delay
+abbrev pub Kept : List ℕ → List ℕ → ℕ → Entry → Type 0
+Kept s before r e = KeptBy delay s before r e
+
+abbrev pub Along : List ℕ → List ℕ → ℕ → List ℕ → Type 0
+Along s before r chain = AlongBy delay s before r chain
+
+abbrev pub Keeps : List ℕ → Type 0
+Keeps s = KeepsBy delay s
+
+-- a book that kept the rules when the delay was the one before A5 keeps them, and reads as the table of the same chain
+pub record StaysKept (s : List ℕ) (old : KeepsBy oldDelay s) : Type 0 where
+  pub keeps : Keeps s
+  pub read : reading s ≡ accepted (tableOf s (0 ∷ old .chain))

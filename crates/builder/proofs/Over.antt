@@ -1,7 +1,7 @@
 -- Where the delays of a table's nodes are at hand: the number of one more node, and its delay with theirs. Assumes nothing.
-use Prim.Native.Nat.{ℕ, suc, _+_, _≤_, _<_, max}
+use Prim.Native.Nat.{ℕ, suc, _+_, _≤_, _<_}
 use native.Mathlib.Omega.{arith}
-use mathlib.Core.Path.{_≡_, refl, sym, ap, ap₂, subst, _∙_}
+use mathlib.Core.Path.{_≡_, refl, sym, ap, subst, _∙_}
 use mathlib.Core.Logic.{⊎-elim}
 use mathlib.Core.Bool.{Bool, true, false, _&&_}
 use mathlib.Core.List.{List, [], _∷_, _++_, map, append-assoc}
@@ -9,36 +9,25 @@ use borrow.Author.Tests.{leb-false}
 use lib.Dec.{ltb, leb}
 use lib.ListN.{length, getD, take, drop, set, replicate, length-set, length-append, take-append-drop, List·getD-map}
 use lib.Seq.{take-all, set-split, getD-set-same, getD-set-other, length-take-le}
-use Rattle.lists.specs.Choice.{pick, first}
+use Rattle.lists.specs.Choice.{first}
 use Rattle.lists.specs.Sequence.{chain}
 use Rattle.lists.proofs.Rows.{no-row}
 use Rattle.lists.proofs.Sequences.{chain-prefix, chain-last}
 use Rattle.lists.proofs.Tests.{or-left, or-right, and-right, lt-or-le}
-use Rattle.table.specs.Nodes.{Op, opOf, usesOf, noTable, delayAs, delayOver, delays, cap}
+use Rattle.table.specs.Nodes.{opOf, usesOf, noTable, delayOver, delays, cap}
 use Rattle.table.specs.declared.Node.{Node}
 use Rattle.table.specs.declared.Table.{Table}
-use Rattle.table.proofs.Delays.{delay-uses, delays-chain, capped-over}
+use Rattle.table.proofs.Delays.{delay-used, delays-chain, capped-over}
 use Rattle.builder.specs.Adding.{operandPast, nodeRowsBy, addNodeRows, withNode, addingNode}
 use Rattle.builder.specs.Built.{Delays}
 use Rattle.builder.proofs.Answers.{long-cap, rows-capped}
 use Rattle.builder.proofs.Holding.{node-taken}
 
--- ---- a delay reads only the operands that the kind uses
-used : (o : Op) (lo hi a b c d : ℕ) → (usesOf o .left ≡ true → a ≡ c) → (usesOf o .right ≡ true → b ≡ d) → delayAs o lo hi a b ≡ delayAs o lo hi c d
-used o lo hi a b c d l r =
-    sym (delay-uses o lo hi a b)
-    ∙ ap₂ (λ (x y : ℕ). pick (usesOf o .interval) hi 0 + max x y) (part (usesOf o .left) a c l) (part (usesOf o .right) b d r)
-    ∙ delay-uses o lo hi c d
-  where
-    part : (u : Bool) (x y : ℕ) → (u ≡ true → x ≡ y) → pick u x 0 ≡ pick u y 0
-    part true x y e = e refl
-    part false x y e = refl
-
 -- two lists that hold the same below `count`
 same-over : (xs ys : List ℕ) (count : ℕ) (n : Node) → operandPast count n ≡ false → ((k : ℕ) → k < count → getD xs k 0 ≡ getD ys k 0) → delayOver xs n ≡ delayOver ys n
 same-over xs ys count n h e =
     let u = usesOf (opOf (n .kind)) in
-    used (opOf (n .kind)) (n .lo) (n .hi) (getD xs (n .left) 0) (getD xs (n .right) 0) (getD ys (n .left) 0) (getD ys (n .right) 0)
+    delay-used false (opOf (n .kind)) (n .lo) (n .hi) (getD xs (n .left) 0) (getD xs (n .right) 0) (getD ys (n .left) 0) (getD ys (n .right) 0)
     (λ l. e (n .left) (leb-false count (n .left) (and-right (u .left) _ (or-left _ _ h) l)))
     (λ r. e (n .right) (leb-false count (n .right) (and-right (u .right) _ (or-right (u .left && leb count (n .left)) _ h) r)))
 
@@ -57,7 +46,7 @@ module _ (t : Table) (ds : List ℕ) (d : Delays t ds) where
 
   -- the delay of one more node, capped
   pub delay-over-held : (n : Node) → operandPast (t .«node_count») n ≡ false → cap (delayOver (take 64 ds) n) ≡ cap (delayOver real n)
-  delay-over-held n h = ap cap (same-over (take 64 ds) (map cap real) (t .«node_count») n h held) ∙ capped-over real n refl refl
+  delay-over-held n h = ap cap (same-over (take 64 ds) (map cap real) (t .«node_count») n h held) ∙ capped-over false real n refl refl
 
   same-number : (n : Node) → first (nodeRowsBy (t .«node_count») (delayOver (take 64 ds) n) n) ≡ first (nodeRowsBy (t .«node_count») (delayOver real n) n)
   same-number n = go (operandPast (t .«node_count») n) refl

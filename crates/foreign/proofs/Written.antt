@@ -83,10 +83,10 @@ module _ (m : Start) where
   call-keeps (feed width block l) a k z e = called-keeps width k ∙ e
   call-keeps (close width l) a k z e = called-keeps width k ∙ e
   call-keeps (widen old size l) a k z e =
-      ap (take 546) (widened-bytes old size l k z) ∙ table-first (heldIn narrow (l .session)) old (omega (arith, size)) ∙ table-held m a
+      ap (take 546) (widened-bytes false old size l k z) ∙ table-first (heldIn narrow (l .session)) old (omega (arith, size)) ∙ table-held false m a
 
   running : {width width′ : Width} {cs : List Call} {b h : List ℕ} {ended : Bool} → Calls width (m .session) (m .history) cs width′ b h ended → take 546 b ≡ m .simple
-  running begin = session-first m
+  running begin = session-first false m
   running (accepted c a k z) = call-keeps c a k z (running a)
   running (refused c a k n) = running a
 

@@ -2,7 +2,7 @@
 use Prim.Native.Nat.{ℕ, _≤_}
 use native.Mathlib.Omega.{arith}
 use mathlib.Core.Path.{_≡_, refl, ap, subst, _∙_}
-use mathlib.Core.Bool.{true, false}
+use mathlib.Core.Bool.{Bool, true, false}
 use mathlib.Core.Logic.{⊎-elim}
 use mathlib.Core.List.{List}
 use borrow.Author.Tests.{eq-eqb, ne-eqb, eqb-true}
@@ -10,6 +10,8 @@ use lib.Dec.{eqb}
 use lib.ListN.{length}
 use Rattle.limits.specs.Limits.{maxSeen}
 use Rattle.lists.proofs.Tests.{true-or-false}
+use Rattle.mltl.specs.Mltl.{delay}
+use Rattle.table.specs.Nodes.{waitOf}
 use Rattle.table.specs.declared.Table.{Table}
 use Rattle.flat.specs.Flat.{tableFrom, written}
 use Rattle.flat.specs.Sessions.{renewed}
@@ -20,7 +22,7 @@ use Rattle.early.specs.declared.Decision.{Decision}
 use Rattle.early.specs.Early.{toldBy, earlyTold, earlyScratch, Decides}
 use Rattle.session.specs.declared.Session.{Session}
 use Rattle.session.specs.declared.Answer.{Answer}
-use Rattle.session.specs.Session.{Effect, unfit, feedNumber, feedingWithin, feeding, closeNumber, closing}
+use Rattle.session.specs.Session.{Effect, unfitBy, unfit, feedNumberBy, feedingBy, feeding, closeNumberBy, closingBy}
 use Rattle.session.proofs.Answers.{feed-fits, close-fits, unfit-short}
 use Rattle.juntreak.specs.Answers.{leaves, earlyAnswer, sessionAnswer, Simplifies, counted, Called}
 
@@ -70,18 +72,18 @@ pub count-within : {e : Effect} {r : Answer} {h x o : List ℕ} (n : ℕ) → _�
 count-within n p l = rw (ap (λ (z : Effect). z .answer .count) p) l
 
 pub feed-count : (s : Session) (block h x o : List ℕ) → feeding s block h x o .answer .count ≤ 1024
-unfolding feedingWithin
+unfolding feedingBy
 feed-count s block h x o =
-    let n : ℕ = feedNumber maxSeen s (length block) (length h) (length x) (length o) in
+    let n : ℕ = feedNumberBy delay maxSeen s (length block) (length h) (length x) (length o) in
     ⊎-elim
     (λ (b : eqb n 0 ≡ true). rw b (let f = feed-fits maxSeen (unfit s) (s .seen) (length block) (length h) (length x) (length o) (eqb-true n 0 b) in omega (arith, f .few)))
     (λ (b : eqb n 0 ≡ false). rw b (omega arith)) (true-or-false (eqb n 0))
 
-pub close-count : (s : Session) (h x o : List ℕ) → closing s h x o .answer .count ≤ 4095
-unfolding closing
-close-count s h x o =
-    let n : ℕ = closeNumber s (length h) (length x) (length o) in
+pub close-count : (old : Bool) (s : Session) (h x o : List ℕ) → closingBy (waitOf old) s h x o .answer .count ≤ 4095
+unfolding closingBy
+close-count old s h x o =
+    let n : ℕ = closeNumberBy (waitOf old) s (length h) (length x) (length o) in
     ⊎-elim
     (λ (b : eqb n 0 ≡ true).
-    rw b (let f = close-fits (unfit s) (length h) (length x) (length o) (eqb-true n 0 b) in omega (arith, unfit-short s (f .fit))))
+    rw b (let f = close-fits (unfitBy (waitOf old) s) (length h) (length x) (length o) (eqb-true n 0 b) in omega (arith, unfit-short old s (f .fit))))
     (λ (b : eqb n 0 ≡ false). rw b (omega arith)) (true-or-false (eqb n 0))

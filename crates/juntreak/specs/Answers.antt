@@ -11,7 +11,8 @@ use Rattle.text.specs.declared.Typed.{Typed}
 use Rattle.flat.specs.Flat.{tableFrom, written}
 use Rattle.flat.specs.Sessions.{sessionWritten}
 use Rattle.simplify.specs.declared.Simplified.{Simplified}
-use Rattle.simplify.specs.Promise.{Promised}
+use Rattle.simplify.specs.Promise.{PromisedBy}
+use Rattle.mltl.specs.Mltl.{Formula, delay}
 use Rattle.mltl.specs.Known.{Value, no, undecided, yes}
 use Rattle.early.specs.Early.{Told, refused, value}
 use Rattle.session.specs.declared.Answer.{Answer}
@@ -57,12 +58,15 @@ abbrev pub earlyAnswer : Told → ℕ
 earlyAnswer (refused number) = number
 earlyAnswer (value v) = 256 * valueNumber v
 
--- the bytes of a table after the simplifier: its answer is free but for what is promised of it
-pub record Simplifies (before : List ℕ) (number : ℕ) (after : List ℕ) : Type 0 where
+-- the bytes of a table after the simplifier: its answer is free but for what is promised of it, by a measure of how many states a verdict waits for
+pub record SimplifiesBy (wait : Formula → ℕ) (before : List ℕ) (number : ℕ) (after : List ℕ) : Type 0 where
   pub answer : Simplified
-  pub promised : Promised (tableFrom before) answer
+  pub promised : PromisedBy wait (tableFrom before) answer
   pub told : number ≡ answer .number
   pub bytes : after ≡ leaves (answer .number) (written (answer .table) before) before
+
+abbrev pub Simplifies : List ℕ → ℕ → List ℕ → Type 0
+Simplifies before number after = SimplifiesBy delay before number after
 
 -- ---- the bytes of a session after a call that gives one
 abbrev pub stored : Opening → List ℕ → List ℕ

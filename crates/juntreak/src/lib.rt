@@ -3,13 +3,14 @@
 ghost use mathlib.Core.Path.{_≡_};
 ghost use lib.ListN.{length};
 ghost use Rattle.interval.specs.Parts.{splitting};
+ghost use Rattle.table.specs.Nodes.{waitOf};
 ghost use Rattle.table.specs.Sound.{ruleDelay};
 ghost use Rattle.book.specs.Reading.{reading, codeOf};
 ghost use Rattle.book.specs.Writing.{writing, writtenInto};
 ghost use Rattle.text.specs.Typing.{typed};
 ghost use Rattle.verdict.specs.Verdict.{Answered};
 ghost use Rattle.early.specs.Early.{toldBy, earlyTold, earlyScratch};
-ghost use Rattle.session.specs.Session.{opening, feeding, closing};
+ghost use Rattle.session.specs.Session.{opening, feeding, closingBy, closing, closingOld};
 ghost use Rattle.narrow.specs.Narrow.{wideOf, widening};
 ghost use Rattle.flat.specs.Flat.{tableFrom, written};
 ghost use Rattle.flat.specs.Sessions.{sessionFrom, sessionWritten, renewed, narrowFrom};
@@ -239,7 +240,22 @@ pub extern "C" fn juntreak_feed(
     r.number as u64 + 4294967296 * (r.count as u64)
 }
 
-// The verdicts of the states that history still holds.
+// The verdicts of the states that history still holds; where `old`, by the delay before A5.
+fn close_by(
+    old: bool,
+    session: &mut [u8; SESSION_BYTES],
+    history: &[u32],
+    scratch: &mut [u64],
+    out: &mut [u64],
+) -> u64
+    ensures { λ r. ⌜ Called renewed (closingBy (waitOf old) (sessionFrom (now (session .entry))) (now (history .entry)) (now (scratch .entry)) (now (out .entry))) (now (session .entry)) r (now (session .exit)) (now (history .entry)) (now (scratch .exit)) (now (out .exit)) ⌝ }
+{
+    let s = flat::read_session(session);
+    let r = session::close_under(old, s, history, scratch, out);
+    put_count(r, session);
+    r.number as u64 + 4294967296 * (r.count as u64)
+}
+
 #[no_mangle]
 pub extern "C" fn juntreak_close(
     session: &mut [u8; SESSION_BYTES],
@@ -249,8 +265,18 @@ pub extern "C" fn juntreak_close(
 ) -> u64
     ensures { λ r. ⌜ Called renewed (closing (sessionFrom (now (session .entry))) (now (history .entry)) (now (scratch .entry)) (now (out .entry))) (now (session .entry)) r (now (session .exit)) (now (history .entry)) (now (scratch .exit)) (now (out .exit)) ⌝ }
 {
-    let s = flat::read_session(session);
-    let r = s.close(history, scratch, out);
-    put_count(r, session);
-    r.number as u64 + 4294967296 * (r.count as u64)
+    close_by(false, session, history, scratch, out)
+}
+
+// The same for a session that was opened and fed under the delay before A5.
+#[no_mangle]
+pub extern "C" fn juntreak_close_old(
+    session: &mut [u8; SESSION_BYTES],
+    history: &[u32],
+    scratch: &mut [u64],
+    out: &mut [u64],
+) -> u64
+    ensures { λ r. ⌜ Called renewed (closingOld (sessionFrom (now (session .entry))) (now (history .entry)) (now (scratch .entry)) (now (out .entry))) (now (session .entry)) r (now (session .exit)) (now (history .entry)) (now (scratch .exit)) (now (out .exit)) ⌝ }
+{
+    close_by(true, session, history, scratch, out)
 }

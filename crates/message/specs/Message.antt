@@ -37,7 +37,7 @@ sentences =
     ARGUMENT says "A signal is above s31, or the rule's name is 0 or above 255.\n" ∷
     INTERVAL says "An interval [a,b] has a above b, or b above 4095.\n" ∷
     FULL says "Up to this line there are more than 64 atoms and operators, or more than 8 rules.\n" ∷
-    LONG says "The rule waits for more than 4095 later states.\n" ∷
+    LONG says "The rule or a part of it waits for more than 4095 later states.\n" ∷
     NAME says "An earlier line has the same name.\n" ∷
     RULELESS says "The text is empty: it has no rule.\n" ∷
     SYNTAX says "At the mark the line goes on, or ends, as no rule does; the last line needs a line end too.\n" ∷

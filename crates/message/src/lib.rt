@@ -107,7 +107,7 @@ fn put_sentence(out: &mut [u8], at: usize, number: u8) -> usize
         return rows::put_text(
             out,
             at,
-            b"The rule waits for more than 4095 later states.\n",
+            b"The rule or a part of it waits for more than 4095 later states.\n",
         );
     }
     if number == refusals::NAME {

@@ -12,6 +12,8 @@ mod Widened
 pub mod Sources
 -- the third demand
 pub mod ThirdDemand
+-- lists before A5, ended by the second close
+pub mod SecondClose
 -- what is known while a session runs
 pub mod Early
 -- the rule that a session watches is the formula of its line

@@ -3,12 +3,12 @@ use mathlib.Core.Path.{_≡_, refl}
 use mathlib.Core.List.{map}
 use Rattle.lists.specs.Bits.{bit, number, wordAt, pack, packed}
 use Rattle.lists.specs.Sequence.{every, chain}
-use Rattle.mltl.specs.Mltl.{holds, delay, someFrom, someTick, everyTick, eventually, until, opposite, always, release}
+use Rattle.mltl.specs.Mltl.{holds, delayBy, computationLength, someFrom, someTick, everyTick, eventually, until, opposite, always, release}
 use Rattle.interval.specs.Parts.{largestTo, left, partsTo, parts}
 use Rattle.table.specs.Sound.{isSoundBy}
-use Rattle.session.specs.Session.{opening, feedingWithin, closing}
+use Rattle.session.specs.Session.{openingBy, feedingBy, closingBy}
 use Rattle.mission.specs.Rows.{markedRows, computed, stated}
 
 pub marked-rows : map computed markedRows ≡ map stated markedRows
-unfolding bit number wordAt pack packed every chain delay isSoundBy opening feedingWithin closing holds someFrom someTick everyTick eventually until opposite always release largestTo left partsTo parts
+unfolding bit number wordAt pack packed every chain delayBy computationLength isSoundBy openingBy feedingBy closingBy holds someFrom someTick everyTick eventually until opposite always release largestTo left partsTo parts
 marked-rows = refl

@@ -1,17 +1,16 @@
--- Sessions over tables as a world of crate acts, and the calls of this crate as calls of it.
+-- Sessions over tables as a world of crate acts, by either delay, and the calls of this crate as calls of it.
 use Prim.Native.Nat.{ℕ, _<_}
 use mathlib.Core.Path.{_≡_, refl, ap, _∙_}
-use mathlib.Core.Bool.{Bool, true, _||_}
+use mathlib.Core.Bool.{Bool, true, false, _||_}
 use mathlib.Core.List.{List, [], _∷_}
 use lib.ListN.{length}
 use lib.Dec.{ltb}
 use Rattle.lists.specs.Choice.{Row, _if_, numbered}
-use Rattle.mltl.specs.Mltl.{Formula, holds, delay}
-use Rattle.mltl.proofs.Stable.{prefix-stable, future-only}
+use Rattle.mltl.specs.Mltl.{Formula, holds, Settles}
+use Rattle.mltl.proofs.Stable.{prefix-stable, old-prefix-stable, future-only}
 use Rattle.table.specs.declared.Table.{Table}
-use Rattle.table.specs.Nodes.{noTable, watchedFormula}
-use Rattle.simplify.specs.Promise.{Simpler}
-use Rattle.session.specs.Session.{Effect, unfit}
+use Rattle.table.specs.Nodes.{noTable, watchedFormula, waitOf}
+use Rattle.session.specs.Session.{Effect, unfitBy}
 use Rattle.acts.specs.World.{World, Width}
 use Rattle.acts.specs.World as world
 use Rattle.acts.specs.Calls as acts
@@ -30,48 +29,48 @@ pub record Buffers : Type 0 where
   pub scratch : List ℕ
   pub out : List ℕ
 
--- r is the rule b of a table, simplified
+-- r is the rule b of a table, simplified: it has the same verdicts
 pub record Made (r b : Watch) : Type 0 where
-  pub simpler : Simpler (b .table) (r .table)
-  pub same : r .rule ≡ b .rule
-  pub below : b .rule < b .table .«rule_count»
-
-pub as-made : (r b : Watch) → Made r b → (xs : List ℕ) (t : ℕ) → t < length xs → holds (formula r) xs t ≡ holds (formula b) xs t
-as-made r b m xs t h = ap (λ (k : ℕ). holds (watchedFormula (r .table) k) xs t) (m .same) ∙ m .simpler .verdicts (b .rule) (m .below) xs t h
+  pub verdicts : (xs : List ℕ) (t : ℕ) → t < length xs → holds (formula r) xs t ≡ holds (formula b) xs t
 
 -- the rows of refusals before 24; there is no change yet
-abbrev pub bad : Watch → Bool
-bad r = unfit (record { table = r .table; rule = r .rule; seen = 0 })
+abbrev pub bad : (Formula → ℕ) → Watch → Bool
+bad wait r = unfitBy wait (record { table = r .table; rule = r .rule; seen = 0 })
 
 abbrev pub short : ℕ → List ℕ → Buffers → Bool
 short m h x = ltb (length h) 4095 || ltb (length (x .scratch)) 5280 || ltb (length (x .out)) m
 
-abbrev pub rowsBefore : world.Act Watch Watch → world.Session Watch → List ℕ → Buffers → List Row
-rowsBefore (world.feed block) s h x = (25 if bad (s .rule)) ∷ (22 if ltb 1024 (length block)) ∷ (23 if short 16 h x) ∷ []
-rowsBefore world.close s h x = (25 if bad (s .rule)) ∷ (23 if short 64 h x) ∷ []
-rowsBefore world.widen s h x = (25 if bad (s .rule)) ∷ []
-rowsBefore (world.change r b) s h x = []
+abbrev pub rowsBefore : (Formula → ℕ) → world.Act Watch Watch → world.Session Watch → List ℕ → Buffers → List Row
+rowsBefore wait (world.feed block) s h x = (25 if bad wait (s .rule)) ∷ (22 if ltb 1024 (length block)) ∷ (23 if short 16 h x) ∷ []
+rowsBefore wait world.close s h x = (25 if bad wait (s .rule)) ∷ (23 if short 64 h x) ∷ []
+rowsBefore wait world.widen s h x = (25 if bad wait (s .rule)) ∷ []
+rowsBefore wait (world.change r b) s h x = []
 
-pub numbers : (a : world.Act Watch Watch) (s : world.Session Watch) (h : List ℕ) (x : Buffers) → numbered (rowsBefore a s h x) ≡ true
-numbers (world.feed block) s h x = refl
-numbers world.close s h x = refl
-numbers world.widen s h x = refl
-numbers (world.change r b) s h x = refl
+pub numbers : (wait : Formula → ℕ) (a : world.Act Watch Watch) (s : world.Session Watch) (h : List ℕ) (x : Buffers) → numbered (rowsBefore wait a s h x) ≡ true
+numbers wait (world.feed block) s h x = refl
+numbers wait world.close s h x = refl
+numbers wait world.widen s h x = refl
+numbers wait (world.change r b) s h x = refl
 
-abbrev pub tables : World
-tables = record {
+-- a verdict is settled by either delay
+pub settled : (old : Bool) → Settles (waitOf old)
+settled true = old-prefix-stable
+settled false = prefix-stable
+
+abbrev pub tables : Bool → World
+tables old = record {
   Rule = Watch;
   run = λ r. holds (formula r);
-  D = λ r. delay (formula r);
-  stable = λ r. prefix-stable (formula r);
+  D = λ r. waitOf old (formula r);
+  stable = λ r. settled old (formula r);
   future = λ r. future-only (formula r);
   Source = Watch;
   val = λ b. holds (formula b);
   From = Made;
-  as-read = as-made;
+  as-read = λ r b m. m .verdicts;
   Lent = Buffers;
-  rows = rowsBefore;
-  numbers = numbers;
+  rows = rowsBefore (waitOf old);
+  numbers = numbers (waitOf old);
   noRule = record { table = noTable; rule = 0 };
 }
 
@@ -84,15 +83,15 @@ seenAct (feed block) = world.feed block
 seenAct close = world.close
 seenAct widen = world.widen
 
-abbrev pub seenEffect : Effect → List Bool → Width → world.Effect tables
-seenEffect e v width =
+abbrev pub seenEffect : (old : Bool) → Effect → List Bool → Width → world.Effect (tables old)
+seenEffect old e v width =
     record { number = e .answer .number; verdicts = v; session = seenSession (record { base = e .answer .session; width = width }); history = e .history }
 
-abbrev pub seenCall : Call → acts.Call tables
-seenCall c = record {
+abbrev pub seenCall : (old : Bool) → Call → acts.Call (tables old)
+seenCall old c = record {
   act = seenAct (c .act);
   session = seenSession (c .session);
   history = c .history;
   lent = record { scratch = c .scratch; out = c .out };
-  effect = seenEffect (c .effect) (verdictsOf c) (sessionAfter c .width);
+  effect = seenEffect old (c .effect) (verdictsOf c) (sessionAfter c .width);
 }

@@ -1,4 +1,5 @@
--- Lists of calls of feed, close and widen on one session (document 01, Session; A4; the third demand).
+-- Lists of calls of feed, close and widen on one session (document 01, Session; A4, A5; the third demand). `wait` is a measure of how many
+-- states a verdict waits for: the delay; and, for calls as their contracts were before A5, the one then.
 use Prim.Native.Nat.{ℕ}
 use mathlib.Core.Path.{_≡_}
 use mathlib.Core.Bool.{Bool, true, false}
@@ -8,9 +9,10 @@ use lib.Dec.{eqb}
 use Rattle.lists.specs.Choice.{Row, pick}
 use Rattle.lists.specs.Sequence.{ticks, concatMap, sum}
 use Rattle.lists.specs.Bits.{bitAt}
+use Rattle.mltl.specs.Mltl.{Formula, delay}
 use Rattle.session.specs.declared.Session.{Session}
-use Rattle.session.specs.Session.{Effect, noSession, unfit, feedRows, feedingWithin, closeRows, closing}
-use Rattle.narrow.specs.Narrow.{widenRows, widening}
+use Rattle.session.specs.Session.{Effect, noSession, unfitBy, feedRows, feedingBy, closeRows, closingBy}
+use Rattle.narrow.specs.Narrow.{widenRows, wideningBy}
 use Rattle.acts.specs.World.{Width, narrow, wide, limit}
 
 -- ---- sessions
@@ -30,19 +32,19 @@ pub data Act : Type 0 where
   widen : Act
 
 -- what the contract of its function says: on a session, with the words of history, scratch and out. On a narrow session it is what the
--- contracts said when the count had 32 bits: row 24 was at that limit.
-abbrev pub effectOf : Act → AnySession → List ℕ → List ℕ → List ℕ → Effect
-effectOf (feed block) s h x o = feedingWithin (limit (s .width)) (s .base) block h x o
-effectOf close s h x o = closing (s .base) h x o
-effectOf widen s h x o =
-    let w = widening (s .base) in
+-- contracts said when the count had 32 bits: row 24 was at that limit, and `wait` the delay before A5.
+abbrev pub effectBy : (Formula → ℕ) → Act → AnySession → List ℕ → List ℕ → List ℕ → Effect
+effectBy wait (feed block) s h x o = feedingBy wait (limit (s .width)) (s .base) block h x o
+effectBy wait close s h x o = closingBy wait (s .base) h x o
+effectBy wait widen s h x o =
+    let w = wideningBy wait (s .base) in
     record { answer = record { number = w .number; count = 0; session = w .session }; history = h; scratch = x; out = o }
 
 -- its rows of refusals
-abbrev pub rowsOf : Act → AnySession → List ℕ → List ℕ → List ℕ → List Row
-rowsOf (feed block) s h x o = feedRows (limit (s .width)) (unfit (s .base)) (s .base .seen) (length block) (length h) (length x) (length o)
-rowsOf close s h x o = closeRows (unfit (s .base)) (length h) (length x) (length o)
-rowsOf widen s h x o = widenRows (unfit (s .base))
+abbrev pub rowsBy : (Formula → ℕ) → Act → AnySession → List ℕ → List ℕ → List ℕ → List Row
+rowsBy wait (feed block) s h x o = feedRows (limit (s .width)) (unfitBy wait (s .base)) (s .base .seen) (length block) (length h) (length x) (length o)
+rowsBy wait close s h x o = closeRows (unfitBy wait (s .base)) (length h) (length x) (length o)
+rowsBy wait widen s h x o = widenRows (unfitBy wait (s .base))
 
 -- the states that it feeds, and whether it ends a list
 abbrev pub blockOf : Act → List ℕ
@@ -82,9 +84,9 @@ pub record Call : Type 0 where
   pub out : List ℕ
   pub effect : Effect
 
-pub record Meets (c : Call) : Type 0 where
+pub record MeetsBy (wait : Formula → ℕ) (c : Call) : Type 0 where
   pub takes : Takes (c .act) (c .session .width)
-  pub is : c .effect ≡ effectOf (c .act) (c .session) (c .history) (c .scratch) (c .out)
+  pub is : c .effect ≡ effectBy wait (c .act) (c .session) (c .history) (c .scratch) (c .out)
 
 abbrev pub numberOf : Call → ℕ
 numberOf c = c .effect .answer .number
@@ -143,11 +145,24 @@ seenBy true cs = 0
 -- ---- lists of calls
 -- The calls, the session and the history that they have come to, and whether a close was accepted; `first` and `start` are those of
 -- the beginning. An accepted call is given the list's own session and history; a refused one may be given any.
-pub data Calls (first : AnySession) (start : List ℕ) : List Call → AnySession → List ℕ → Bool → Type 0 where
-  begin : Calls first start [] first start false
+pub data CallsBy (wait : Formula → ℕ) (first : AnySession) (start : List ℕ) : List Call → AnySession → List ℕ → Bool → Type 0 where
+  begin : CallsBy wait first start [] first start false
   accepted : {cs : List Call} (c : Call)
-      → Calls first start cs (c .session) (c .history) false → Meets c → numberOf c ≡ 0
-      → Calls first start (cs ++ (c ∷ [])) (sessionAfter c) (c .effect .history) (ends (c .act))
+      → CallsBy wait first start cs (c .session) (c .history) false → MeetsBy wait c → numberOf c ≡ 0
+      → CallsBy wait first start (cs ++ (c ∷ [])) (sessionAfter c) (c .effect .history) (ends (c .act))
   refused : {cs : List Call} {s : AnySession} {h : List ℕ} {ended : Bool} (c : Call)
-      → Calls first start cs s h ended → Meets c → (numberOf c ≡ 0 → ⊥)
-      → Calls first start (cs ++ (c ∷ [])) s h ended
+      → CallsBy wait first start cs s h ended → MeetsBy wait c → (numberOf c ≡ 0 → ⊥)
+      → CallsBy wait first start (cs ++ (c ∷ [])) s h ended
+
+-- ---- by the delay
+abbrev pub effectOf : Act → AnySession → List ℕ → List ℕ → List ℕ → Effect
+effectOf a s h x o = effectBy delay a s h x o
+
+abbrev pub rowsOf : Act → AnySession → List ℕ → List ℕ → List ℕ → List Row
+rowsOf a s h x o = rowsBy delay a s h x o
+
+abbrev pub Meets : Call → Type 0
+Meets c = MeetsBy delay c
+
+abbrev pub Calls : AnySession → List ℕ → List Call → AnySession → List ℕ → Bool → Type 0
+Calls first start cs s h ended = CallsBy delay first start cs s h ended

@@ -1,4 +1,4 @@
--- Document 01's marked rows, with what the definitions compute for each and what is printed there.
+-- Document 01's marked rows and those of document 02, with what the definitions compute for each and what is printed there.
 use Prim.Native.Nat.{ℕ, zero, suc, _+_, _*_}
 use mathlib.Core.Bool.{true, false}
 use mathlib.Core.List.{List, [], _∷_, _++_}
@@ -6,7 +6,7 @@ use lib.ListN.{length, getD, take, replicate}
 use Rattle.limits.specs.Limits.{maxNodes, maxRules, historyWords, scratchWords, feedWords, closeWords}
 use Rattle.lists.specs.Bits.{digit}
 use Rattle.lists.specs.Sequence.{padded}
-use Rattle.mltl.specs.Mltl.{Formula, signal, const, F, G, U, R, holds}
+use Rattle.mltl.specs.Mltl.{Formula, signal, const, F, G, U, R, holds, delay, oldDelay, computationLength}
 use Rattle.interval.specs.Parts.{parts}
 use Rattle.table.specs.declared.Table.{Table}
 use Rattle.table.specs.Nodes.{noNode, noRule}
@@ -14,11 +14,13 @@ use Rattle.session.specs.declared.Session.{Session}
 use Rattle.session.specs.Session.{Effect, opening, feeding, closing}
 
 -- a formula with its verdicts on a trace as binary digits, tick 0 first; a length v with its parts; a session over a table, fed two
--- blocks and closed, with the count, the first word and the states kept of each feed, and the count and the first word of the close
+-- blocks and closed, with the count, the first word and the states kept of each feed, and the count and the first word of the close; a formula
+-- with its delay, the one before A5, and its computation length
 pub data MarkedRow : Type 0 where
   verdicts : Formula → List ℕ → ℕ → MarkedRow
   splits : ℕ → List ℕ → MarkedRow
   streamed : Table → List ℕ → List ℕ → List ℕ → MarkedRow
+  waits : Formula → List ℕ → MarkedRow
 
 -- the verdicts of the first k ticks as binary digits
 abbrev pub verdictDigits : ℕ → Formula → List ℕ → ℕ
@@ -40,11 +42,13 @@ abbrev pub computed : MarkedRow → List ℕ
 computed (verdicts f xs n) = verdictDigits (length xs) f xs ∷ []
 computed (splits v ks) = parts v
 computed (streamed t a b ns) = stream (opening t 0 .session) a b
+computed (waits f ns) = delay f ∷ oldDelay f ∷ computationLength f ∷ []
 
 abbrev pub stated : MarkedRow → List ℕ
 stated (verdicts f xs n) = n ∷ []
 stated (splits v ks) = ks
 stated (streamed t a b ns) = ns
+stated (waits f ns) = ns
 
 abbrev pub P : List ℕ
 P = 2 ∷ 2 ∷ 1 ∷ 0 ∷ 2 ∷ 3 ∷ 0 ∷ 0 ∷ []
@@ -80,5 +84,6 @@ markedRows =
     ∷ splits 13 (3 ∷ 2 ∷ 2 ∷ [])
     ∷ splits 4084 (11 ∷ 10 ∷ 9 ∷ 8 ∷ 7 ∷ 6 ∷ 5 ∷ 4 ∷ 3 ∷ 2 ∷ 1 ∷ 1 ∷ [])
     ∷ splits 4095 (12 ∷ [])
+    ∷ waits (U 0 2 (F 0 3 (signal 2)) (signal 1)) (4 ∷ 5 ∷ 5 ∷ [])
     ∷ streamed finallyP (2 ∷ 2 ∷ 1 ∷ 0 ∷ 2 ∷ []) (3 ∷ 0 ∷ 0 ∷ []) (2 ∷ 3 ∷ 1 ∷ 0 ∷ 2 ∷ 3 ∷ 7 ∷ 3 ∷ 0 ∷ 0 ∷ 3 ∷ 0 ∷ [])
     ∷ []

@@ -3,7 +3,7 @@ use mathlib.Core.Path.{_≡_, refl}
 use mathlib.Core.List.{[], _∷_, _++_}
 use Rattle.lists.specs.Ascii.{ascii}
 use Rattle.lists.specs.Sequence.{chain, every}
-use Rattle.mltl.specs.Mltl.{delay}
+use Rattle.mltl.specs.Mltl.{delayBy}
 use Rattle.builder.specs.Adding.{addingNode, addingRule}
 use Rattle.book.specs.Entries.{usesIn}
 use Rattle.book.specs.Writing.{bookOf}
@@ -19,7 +19,7 @@ own-rule : output (ascii "7: F[1,3] s0\n")
     ∷ 1 ∷ 0 ∷ 0 ∷ 0 ∷ 0 ∷ 0 ∷ 0 ∷ 0 ∷ 2 ∷ 0 ∷ 0 ∷ 0
     ∷ 7 ∷ 0 ∷ 1 ∷ 0 ∷ 3 ∷ 0 ∷ 1 ∷ 0 ∷ 3 ∷ 0 ∷ 0 ∷ 0
     ∷ 11 ∷ 7 ∷ 0 ∷ 0 ∷ 0 ∷ 0 ∷ 2 ∷ 0 ∷ 0 ∷ 0 ∷ 0 ∷ 0 ∷ [])
-unfolding output typed typedFrom fate step plain puts unaryDone depth lineAdded grown addingNode addingRule chain delay every bookOf usesIn
+unfolding output typed typedFrom fate step plain puts unaryDone depth lineAdded grown addingNode addingRule chain delayBy every bookOf usesIn
 own-rule = refl
 
 second-line : output (ascii "7: F[1,3] s0\n8: G[0,] s1\n")
@@ -29,5 +29,5 @@ second-line : output (ascii "7: F[1,3] s0\n8: G[0,] s1\n")
     ++ ascii "line 2, column 8:\n"
     ++ ascii "8: G[0,] s1\n"
     ++ ascii "       ^\n")
-unfolding output typed typedFrom fate step plain puts unaryDone depth lineAdded grown addingNode addingRule chain delay every refusalMessage linesBefore lineStart upToEnd decimal placesFrom
+unfolding output typed typedFrom fate step plain puts unaryDone depth lineAdded grown addingNode addingRule chain delayBy every refusalMessage linesBefore lineStart upToEnd decimal placesFrom
 second-line = refl

@@ -17,27 +17,27 @@ use Rattle.lists.proofs.Tests.{same-test, ltb-iff, or-left, or-right}
 use Rattle.mltl.specs.Mltl.{delay}
 use Rattle.table.specs.declared.Table.{Table}
 use Rattle.table.specs.declared.RuleDelay.{RuleDelay}
-use Rattle.table.specs.Nodes.{formulaAt, ruleAt}
-use Rattle.table.specs.Sound.{Sound, isSound, delayNumber, ruleDelay}
-use Rattle.table.proofs.Soundness.{sound-iff, watched-short}
+use Rattle.table.specs.Nodes.{formulaAt, ruleAt, waitOf}
+use Rattle.table.specs.Sound.{SoundBy, isSoundBy, delayNumberBy, ruleDelayBy, delayNumber, ruleDelay}
+use Rattle.table.proofs.Soundness.{wait-sound-iff, sound-now, watched-short}
 use Rattle.verdict.specs.Verdict.{withVerdicts, cleared, ready, Judged}
 use Rattle.verdict.proofs.Answers.{ready-sound}
 use Rattle.session.specs.declared.Session.{Session}
 use Rattle.session.specs.declared.Opening.{Opening}
-use Rattle.session.specs.Session.{Effect, noSession, opening, refused, unfit, delayOf, withSeen, verdictWords, feedRows, feedNumber, fed, feedingWithin, feeding, closeRows, closeNumber, closed, closing}
+use Rattle.session.specs.Session.{Effect, formulaOf, delayOf, noSession, openingBy, opening, refused, unfitBy, withSeen, verdictWords, feedRows, feedNumberBy, fed, feedingBy, feeding, closeRows, closeNumberBy, closed, closingBy}
 use Rattle.session.specs.Code.Steps.{Writable, Fit, Feedable, Closable}
 
 -- ---- open
 module _ (t : Table) (r : ℕ) {d : RuleDelay} (e : d ≡ ruleDelay t r) where
   pub open-refused : {s : Session} → (d .number ≡ 0 → ⊥) → s ≡ noSession → _≡_ {A = Opening} (record { number = d .number; session = s }) (opening t r)
-  unfolding opening ruleDelay
+  unfolding openingBy ruleDelayBy
   open-refused n p =
       let q : d .number ≡ delayNumber t r = ap (λ (x : RuleDelay). x .number) e in
       let z : eqb (delayNumber t r) 0 ≡ false = ne-eqb (delayNumber t r) 0 (λ k. n (q ∙ k)) in
       rw (q, p, z)
 
   pub open-accepted : d .number ≡ 0 → _≡_ {A = Opening} (record { number = 0; session = record { table = t; rule = r; seen = 0 } }) (opening t r)
-  unfolding opening ruleDelay
+  unfolding openingBy ruleDelayBy
   open-accepted n =
       let q : delayNumber t r ≡ 0 = sym (ap (λ (x : RuleDelay). x .number) e) ∙ n in
       rw q
@@ -47,64 +47,65 @@ module _ (t : Table) (r : ℕ) {d : RuleDelay} (e : d ≡ ruleDelay t r) where
 pub over-limit : (seen k : ℕ) → seen ≤ maxSeen → ltb (maxSeen - seen) k ≡ ltb maxSeen (seen + k)
 over-limit seen k h = same-test _ _ (ltb-iff (maxSeen - seen) k) (ltb-iff maxSeen (seen + k)) (λ l. omega arith) (λ l. omega arith)
 
--- a session that is not unfit: its table is sound, and its rule is there
-fit-tests : (s : Session) → unfit s ≡ false → (isSound (s .table) ≡ true) × (leb (s .table .«rule_count») (s .rule) ≡ false)
-fit-tests s u = (
-  not-false (isSound (s .table)) (or-left (not (isSound (s .table))) _ u),
-  or-right (not (isSound (s .table))) (leb (s .table .«rule_count») (s .rule)) u,
-)
+module _ (old : Bool) where
+  -- a session that is not unfit: its table is sound, and its rule is there
+  fit-tests : (s : Session) → unfitBy (waitOf old) s ≡ false → (isSoundBy (waitOf old) (s .table) ≡ true) × (leb (s .table .«rule_count») (s .rule) ≡ false)
+  fit-tests s u = (
+    not-false (isSoundBy (waitOf old) (s .table)) (or-left (not (isSoundBy (waitOf old) (s .table))) _ u),
+    or-right (not (isSoundBy (waitOf old) (s .table))) (leb (s .table .«rule_count») (s .rule)) u,
+  )
 
-pub fit-sound : (s : Session) → unfit s ≡ false → Sound (s .table) × (s .rule < s .table .«rule_count»)
-fit-sound s u = let t = fit-tests s u in (sound-iff (s .table) .0 (t .0), leb-false (s .table .«rule_count») (s .rule) (t .1))
+  pub fit-sound : (s : Session) → unfitBy (waitOf old) s ≡ false → SoundBy (waitOf old) (s .table) × (s .rule < s .table .«rule_count»)
+  fit-sound s u = let t = fit-tests s u in (wait-sound-iff old (s .table) .0 (t .0), leb-false (s .table .«rule_count») (s .rule) (t .1))
 
-pub sound-fit : (s : Session) → Sound (s .table) → s .rule < s .table .«rule_count» → unfit s ≡ false
-sound-fit s z r = rw (sound-iff (s .table) .1 z, lt-leb (s .table .«rule_count») (s .rule) r)
+  pub sound-fit : (s : Session) → SoundBy (waitOf old) (s .table) → s .rule < s .table .«rule_count» → unfitBy (waitOf old) s ≡ false
+  sound-fit s z r = rw (wait-sound-iff old (s .table) .1 z, lt-leb (s .table .«rule_count») (s .rule) r)
 
--- a session is unfit where the delay of its rule is refused
-module _ (s : Session) {d : RuleDelay} (e : d ≡ ruleDelay (s .table) (s .rule)) where
-  delay-number : d .number ≡ delayNumber (s .table) (s .rule)
-  unfolding ruleDelay
-  delay-number = ap (λ (x : RuleDelay). x .number) e
+  pub unfit-short : (s : Session) → unfitBy (waitOf old) s ≡ false → waitOf old (formulaOf s) ≤ 4095
+  unfit-short s u = let f = fit-sound s u in watched-short old (s .table) (s .rule) (f .0) (f .1)
 
-  pub unfit-is : not (eqb (d .number) 0) ≡ unfit s
-  unfit-is = rw delay-number (go (isSound (s .table)) (leb (s .table .«rule_count») (s .rule)))
-    where
-      go : (a b : Bool) → not (eqb (pick (not a) 25 (pick b 21 0)) 0) ≡ (not a || b)
-      go true true = refl
-      go true false = refl
-      go false b = refl
+  -- a session is unfit where the delay of its rule is refused
+  module _ (s : Session) {d : RuleDelay} (e : d ≡ ruleDelayBy (waitOf old) (s .table) (s .rule)) where
+    delay-number : d .number ≡ delayNumberBy (waitOf old) (s .table) (s .rule)
+    unfolding ruleDelayBy
+    delay-number = ap (λ (x : RuleDelay). x .number) e
 
-  pub fit-is : unfit s ≡ false → {h x : List ℕ} → 4095 ≤ length h → 5280 ≤ length x → Fit s (d .delay) h x
-  unfolding ruleDelay
-  fit-is u p q =
-      let t = fit-tests s u in
-      let f = fit-sound s u in
-      record {
-        sound = f .0;
-        rule = f .1;
-        delay = ap (λ (x : RuleDelay). x .delay) e ∙ rw (t .0, t .1);
-        history-words = p;
-        scratch-words = q;
-      }
+    pub unfit-is : not (eqb (d .number) 0) ≡ unfitBy (waitOf old) s
+    unfit-is = rw delay-number (go (isSoundBy (waitOf old) (s .table)) (leb (s .table .«rule_count») (s .rule)))
+      where
+        go : (a b : Bool) → not (eqb (pick (not a) 25 (pick b 21 0)) 0) ≡ (not a || b)
+        go true true = refl
+        go true false = refl
+        go false b = refl
 
--- ---- a call that is refused, and one that is accepted, by its number
-module _ (s : Session) (block h x o : List ℕ) {n : ℕ} (e : n ≡ feedNumber maxSeen s (length block) (length h) (length x) (length o)) where
+    pub delay-is : unfitBy (waitOf old) s ≡ false → d .delay ≡ waitOf old (formulaOf s)
+    unfolding ruleDelayBy
+    delay-is u = let t = fit-tests s u in ap (λ (x : RuleDelay). x .delay) e ∙ rw (t .0, t .1)
+
+    pub fit-is : unfitBy (waitOf old) s ≡ false → {h x : List ℕ} → 4095 ≤ length h → 5280 ≤ length x → Fit s (d .delay) h x
+    fit-is u p q =
+        let f = fit-sound s u in
+        record { sound = sound-now old (s .table) (f .0); rule = f .1; short = omega (arith, delay-is u, unfit-short s u); history-words = p; scratch-words = q }
+
+  -- ---- a close that is refused, and one that is accepted, by its number
+  module _ (s : Session) (h x o : List ℕ) {n : ℕ} (e : n ≡ closeNumberBy (waitOf old) s (length h) (length x) (length o)) where
+    pub closed-refused : (n ≡ 0 → ⊥) → refused n s h x o ≡ closingBy (waitOf old) s h x o
+    unfolding closingBy
+    closed-refused r = rw (← e, ne-eqb n 0 r)
+
+    pub closed-accepted : {z : Effect} {d : ℕ} → n ≡ 0 → d ≡ waitOf old (formulaOf s) → z ≡ closed d s h x o → z ≡ closingBy (waitOf old) s h x o
+    unfolding closingBy
+    closed-accepted r q p = rw (← e, eq-eqb n 0 r, ← q) p
+
+-- ---- a feed likewise
+module _ (s : Session) (block h x o : List ℕ) {n : ℕ} (e : n ≡ feedNumberBy delay maxSeen s (length block) (length h) (length x) (length o)) where
   pub fed-refused : (n ≡ 0 → ⊥) → refused n s h x o ≡ feeding s block h x o
-  unfolding feedingWithin
+  unfolding feedingBy
   fed-refused r = rw (← e, ne-eqb n 0 r)
 
-  pub fed-accepted : {z : Effect} → n ≡ 0 → z ≡ fed s block h x o → z ≡ feeding s block h x o
-  unfolding feedingWithin
-  fed-accepted r p = rw (← e, eq-eqb n 0 r) p
-
-module _ (s : Session) (h x o : List ℕ) {n : ℕ} (e : n ≡ closeNumber s (length h) (length x) (length o)) where
-  pub closed-refused : (n ≡ 0 → ⊥) → refused n s h x o ≡ closing s h x o
-  unfolding closing
-  closed-refused r = rw (← e, ne-eqb n 0 r)
-
-  pub closed-accepted : {z : Effect} → n ≡ 0 → z ≡ closed s h x o → z ≡ closing s h x o
-  unfolding closing
-  closed-accepted r p = rw (← e, eq-eqb n 0 r) p
+  pub fed-accepted : {z : Effect} {d : ℕ} → n ≡ 0 → d ≡ delayOf s → z ≡ fed d s block h x o → z ≡ feeding s block h x o
+  unfolding feedingBy
+  fed-accepted r q p = rw (← e, eq-eqb n 0 r, ← q) p
 
 -- what the number 0 says
 pub record FeedFits (limit : ℕ) (bad : Bool) (seen k h x o : ℕ) : Type 0 where
@@ -168,12 +169,9 @@ judged-words {t} {place} {trace} {count} {m} {scratch} {out} w j =
     let r = writes-ready t place trace count m scratch out w in
     (rw r at (j .clears), rw r at (j .tells))
 
--- ---- the delay, and what history holds, are short
-pub fit-short : {s : Session} {d : ℕ} {h x : List ℕ} → Fit s d h x → d ≤ 4095
-fit-short {s} f = omega (arith, f .delay, watched-short (s .table) (s .rule) (f .sound) (f .rule))
-
+-- ---- what history holds is short
 pub kept-short : {s : Session} {d n : ℕ} {h x : List ℕ} → Fit s d h x → n ≡ min (s .seen) d → n ≤ 4095
-kept-short f e = omega (arith, e, fit-short f)
+kept-short f e = omega (arith, e, f .short)
 
 -- the rule is one of 8, and it watches one of 64 nodes
 pub fit-rule : {s : Session} {d : ℕ} {h x : List ℕ} → Fit s d h x → s .rule < 8
@@ -201,13 +199,13 @@ module _ {s : Session} {d : ℕ} {block h x o : List ℕ} (f : Feedable s d bloc
     long : length trace ≡ hh + k
     long =
         let w = f .fit .history-words in
-        let e = fit-short (f .fit) in
+        let e = f .fit .short in
         length-append (take hh h) block ∙ ap (λ (i : ℕ). i + k) (length-take hh h ∙ omega arith)
 
     pub feed-writes : {older : List ℕ} → older ≡ take hh h → Writable (s .table) place (older ++ block) (a - b) 16 x o
     feed-writes e =
         let n = f .few in
-        let g = fit-short (f .fit) in
+        let g = f .fit .short in
         rw e
         (record {
           sound = f .fit .sound;
@@ -222,10 +220,10 @@ module _ {s : Session} {d : ℕ} {block h x o : List ℕ} (f : Feedable s d bloc
     pub feed-is : {left : ℕ} {older h′ x′ o′ : List ℕ} → left ≡ min (s .seen + k) d → older ≡ take hh h
         → (x′ ≡ cleared x) × (o′ ≡ verdictWords 16 (a - b) (formulaAt (s .table .nodes) place) (older ++ block) o)
         → h′ ≡ drop (hh + k - left) trace ++ drop left h
-        → _≡_ {A = Effect} (record { answer = record { number = 0; count = a - b; session = withSeen s (s .seen + k) }; history = h′; scratch = x′; out = o′ }) (fed s block h x o)
+        → _≡_ {A = Effect} (record { answer = record { number = 0; count = a - b; session = withSeen s (s .seen + k) }; history = h′; scratch = x′; out = o′ }) (fed d s block h x o)
     feed-is {left} t e (ex, eo) eh =
         let m : hh + k - left ≡ length trace - d = omega (arith, long) in
-        rw (ex, eo, e, eh, m, p, q, r, t, f .fit .delay)
+        rw (ex, eo, e, eh, m, p, q, r, t)
 
 -- ---- an accepted close
 module _ {s : Session} {d : ℕ} {h x o : List ℕ} (f : Closable s d h x o) where
@@ -235,7 +233,7 @@ module _ {s : Session} {d : ℕ} {h x o : List ℕ} (f : Closable s d h x o) whe
   module _ {count : ℕ} (p : count ≡ min (s .seen) d) where
     pub close-writes : {older none : List ℕ} → older ≡ take count h → none ≡ [] → Writable (s .table) spot (older ++ none) count 64 x o
     close-writes e z =
-        let g = fit-short (f .fit) in
+        let g = f .fit .short in
         let w = f .fit .history-words in
         let l : length (take count h ++ []) ≡ count = ap length (append-nil (take count h)) ∙ length-take count h ∙ omega arith in
         rw (e, z)
@@ -251,8 +249,5 @@ module _ {s : Session} {d : ℕ} {h x o : List ℕ} (f : Closable s d h x o) whe
 
     pub close-is : {older none x′ o′ : List ℕ} → older ≡ take count h → none ≡ []
         → (x′ ≡ cleared x) × (o′ ≡ verdictWords 64 count (formulaAt (s .table .nodes) spot) (older ++ none) o)
-        → _≡_ {A = Effect} (record { answer = record { number = 0; count = count; session = withSeen s 0 }; history = h; scratch = x′; out = o′ }) (closed s h x o)
-    close-is e z (ex, eo) = rw (ex, eo, e, z, append-nil, p, f .fit .delay)
-
-pub unfit-short : (s : Session) → unfit s ≡ false → delayOf s ≤ 4095
-unfit-short s u = let f = fit-sound s u in watched-short (s .table) (s .rule) (f .0) (f .1)
+        → _≡_ {A = Effect} (record { answer = record { number = 0; count = count; session = withSeen s 0 }; history = h; scratch = x′; out = o′ }) (closed d s h x o)
+    close-is e z (ex, eo) = rw (ex, eo, e, z, append-nil, p)

@@ -2,7 +2,7 @@
 use Prim.Native.Nat.{ℕ, _-_, _/_, _<_}
 use native.Mathlib.Omega.{arith}
 use mathlib.Core.Path.{_≡_, refl, sym, ap, _∙_}
-use mathlib.Core.Bool.{true, false}
+use mathlib.Core.Bool.{Bool, true, false}
 use mathlib.Core.Logic.{⊎-elim}
 use mathlib.Core.List.{List, _++_, append-assoc}
 use borrow.Author.Tests.{eq-eqb, eqb-true, eqb-false}
@@ -16,10 +16,11 @@ use Rattle.lists.proofs.Sequences.{ticks-ext}
 use Rattle.lists.proofs.Columns.{bitAt-same, length-packed, packed-in}
 use Rattle.mltl.specs.Mltl.{Formula, holds}
 use Rattle.table.specs.declared.Table.{Table}
-use Rattle.table.specs.Sound.{Sound, delayNumber}
+use Rattle.table.specs.Nodes.{waitOf}
+use Rattle.table.specs.Sound.{SoundBy, delayNumberBy}
 use Rattle.table.proofs.Soundness.{rule-there}
 use Rattle.session.specs.declared.Session.{Session}
-use Rattle.session.specs.Session.{Effect, refused, unfit, verdictWords, feedNumber, fed, feedingWithin, closeNumber, closed, closing, opening}
+use Rattle.session.specs.Session.{Effect, formulaOf, refused, unfitBy, verdictWords, feedNumberBy, fed, feedingBy, closeNumberBy, closed, closingBy, openingBy}
 use Rattle.session.proofs.Answers.{sound-fit}
 
 -- a choice between an accepted effect, whose number is 0, and a refused one
@@ -37,35 +38,40 @@ module _ (n : ℕ) (yes : Effect) (zero : yes .answer .number ≡ 0) (s : Sessio
   chosen-number : chosen .answer .number ≡ n
   chosen-number = ⊎-elim (λ (b : eqb n 0 ≡ true). rw b (zero ∙ sym (eqb-true n 0 b))) (λ (b : eqb n 0 ≡ false). rw b) (true-or-false (eqb n 0))
 
-module _ (s : Session) (h x o : List ℕ) where
+module _ (wait : Formula → ℕ) (s : Session) (h x o : List ℕ) where
+  abbrev d : ℕ
+  d = wait (formulaOf s)
+
   module _ (limit : ℕ) (block : List ℕ) where
     abbrev n : ℕ
-    n = feedNumber limit s (length block) (length h) (length x) (length o)
+    n = feedNumberBy wait limit s (length block) (length h) (length x) (length o)
 
-    pub feed-number : feedingWithin limit s block h x o .answer .number ≡ n
-    unfolding feedingWithin
-    feed-number = chosen-number n (fed s block h x o) refl s h x o
+    pub feed-number : feedingBy wait limit s block h x o .answer .number ≡ n
+    unfolding feedingBy
+    feed-number = chosen-number n (fed d s block h x o) refl s h x o
 
-    pub feed-accepted : feedingWithin limit s block h x o .answer .number ≡ 0 → (feedingWithin limit s block h x o ≡ fed s block h x o) × (n ≡ 0)
-    unfolding feedingWithin
-    feed-accepted e = accepted-is n (fed s block h x o) refl s h x o e
+    pub feed-accepted : feedingBy wait limit s block h x o .answer .number ≡ 0 → (feedingBy wait limit s block h x o ≡ fed d s block h x o) × (n ≡ 0)
+    unfolding feedingBy
+    feed-accepted e = accepted-is n (fed d s block h x o) refl s h x o e
 
-    pub feed-refused : (feedingWithin limit s block h x o .answer .number ≡ 0 → ⊥) → (feedingWithin limit s block h x o ≡ refused n s h x o) × (n ≡ 0 → ⊥)
-    unfolding feedingWithin
-    feed-refused e = refused-is n (fed s block h x o) refl s h x o e
+    pub feed-refused : (feedingBy wait limit s block h x o .answer .number ≡ 0 → ⊥) → (feedingBy wait limit s block h x o ≡ refused n s h x o) × (n ≡ 0 → ⊥)
+    unfolding feedingBy
+    feed-refused e = refused-is n (fed d s block h x o) refl s h x o e
 
-  pub close-number : closing s h x o .answer .number ≡ closeNumber s (length h) (length x) (length o)
-  unfolding closing
-  close-number = chosen-number (closeNumber s (length h) (length x) (length o)) (closed s h x o) refl s h x o
+  abbrev c : ℕ
+  c = closeNumberBy wait s (length h) (length x) (length o)
 
-  pub close-accepted : closing s h x o .answer .number ≡ 0 → (closing s h x o ≡ closed s h x o) × (closeNumber s (length h) (length x) (length o) ≡ 0)
-  unfolding closing
-  close-accepted e = accepted-is (closeNumber s (length h) (length x) (length o)) (closed s h x o) refl s h x o e
+  pub close-number : closingBy wait s h x o .answer .number ≡ c
+  unfolding closingBy
+  close-number = chosen-number c (closed d s h x o) refl s h x o
 
-  pub close-refused : (closing s h x o .answer .number ≡ 0 → ⊥)
-      → (closing s h x o ≡ refused (closeNumber s (length h) (length x) (length o)) s h x o) × (closeNumber s (length h) (length x) (length o) ≡ 0 → ⊥)
-  unfolding closing
-  close-refused e = refused-is (closeNumber s (length h) (length x) (length o)) (closed s h x o) refl s h x o e
+  pub close-accepted : closingBy wait s h x o .answer .number ≡ 0 → (closingBy wait s h x o ≡ closed d s h x o) × (c ≡ 0)
+  unfolding closingBy
+  close-accepted e = accepted-is c (closed d s h x o) refl s h x o e
+
+  pub close-refused : (closingBy wait s h x o .answer .number ≡ 0 → ⊥) → (closingBy wait s h x o ≡ refused c s h x o) × (c ≡ 0 → ⊥)
+  unfolding closingBy
+  close-refused e = refused-is c (closed d s h x o) refl s h x o e
 
 -- the verdicts in the words that a call writes
 pub words-verdicts : (m count : ℕ) (f : Formula) (trace o : List ℕ) → ticks (bitAt (verdictWords m count f trace o)) count ≡ ticks (holds f trace) count
@@ -78,18 +84,19 @@ words-verdicts m count f trace o = ticks-ext (bitAt (verdictWords m count f trac
     ∙ packed-in count (holds f trace) i h
 
 -- ---- an accepted open: the session, and a rule of a sound table
-pub opened-is : (t : Table) (r : ℕ) → opening t r .number ≡ 0 → opening t r .session ≡ record { table = t; rule = r; seen = 0 }
-unfolding opening
-opened-is t r e = rw (eq-eqb (delayNumber t r) 0 e)
+module _ (old : Bool) (t : Table) (r : ℕ) (e : openingBy (waitOf old) t r .number ≡ 0) where
+  pub opened-is : openingBy (waitOf old) t r .session ≡ record { table = t; rule = r; seen = 0 }
+  unfolding openingBy
+  opened-is = rw (eq-eqb (delayNumberBy (waitOf old) t r) 0 e)
 
-pub opened-rule : (t : Table) (r : ℕ) → opening t r .number ≡ 0 → r < t .«rule_count»
-unfolding opening
-opened-rule t r e = rule-there t r e .1
+  pub opened-rule : r < t .«rule_count»
+  unfolding openingBy
+  opened-rule = rule-there old t r e .1
 
-pub opened-sound : (t : Table) (r : ℕ) → opening t r .number ≡ 0 → Sound t
-unfolding opening
-opened-sound t r e = rule-there t r e .0
+  pub opened-sound : SoundBy (waitOf old) t
+  unfolding openingBy
+  opened-sound = rule-there old t r e .0
 
--- so it is fit
-pub opened-fit : (t : Table) (r : ℕ) → opening t r .number ≡ 0 → unfit (opening t r .session) ≡ false
-opened-fit t r e = rw (opened-is t r e) (sound-fit (record { table = t; rule = r; seen = 0 }) (opened-sound t r e) (opened-rule t r e))
+  -- so it is fit
+  pub opened-fit : unfitBy (waitOf old) (openingBy (waitOf old) t r .session) ≡ false
+  opened-fit = rw opened-is (sound-fit old (record { table = t; rule = r; seen = 0 }) opened-sound opened-rule)

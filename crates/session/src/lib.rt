@@ -5,9 +5,9 @@ ghost use Prim.Native.Nat.{_+_, _-_, _≤_, min};
 ghost use lib.ListN.{length, take, drop};
 ghost use Rattle.limits.specs.Limits.{maxBlock, maxSeen};
 ghost use Rattle.lists.specs.Choice.{first};
-ghost use Rattle.table.specs.Nodes.{formulaAt};
+ghost use Rattle.table.specs.Nodes.{formulaAt, waitOf};
 ghost use Rattle.verdict.specs.Verdict.{cleared};
-ghost use Rattle.session.specs.Session.{sessionWith, noSession, withSeen, verdictWords, opening, feedRows, fed, feeding, closeRows, closed, closing};
+ghost use Rattle.session.specs.Session.{sessionWith, noSession, withSeen, verdictWords, opening, feedRows, fed, feeding, closeRows, closed, closingBy, closing, closingOld};
 ghost use Rattle.session.specs.Code.Steps.{Writable, Feedable, Closable};
 use limits::CLOSE_WORDS;
 use limits::FEED_WORDS;
@@ -94,16 +94,14 @@ impl Session {
     pub fn close(self, history: &[u32], scratch: &mut [u64], out: &mut [u64]) -> Answer
         ensures { λ r. ⌜ record { answer = r; history = now (history .entry); scratch = now (scratch .exit); out = now (out .exit) } ≡ closing self (now (history .entry)) (now (scratch .entry)) (now (out .entry)) ⌝ }
     {
-        let d = table::delay(self.table, self.rule);
-        let number = close_number(d.number != 0, history.len(), scratch.len(), out.len());
-        if number != 0 {
-            return Answer {
-                number,
-                count: 0,
-                session: self,
-            };
-        }
-        finish(self, d.delay as usize, history, scratch, out)
+        close_under(false, self, history, scratch, out)
+    }
+
+    // The same for a session that was opened and fed under the delay before A5.
+    pub fn close_old(self, history: &[u32], scratch: &mut [u64], out: &mut [u64]) -> Answer
+        ensures { λ r. ⌜ record { answer = r; history = now (history .entry); scratch = now (scratch .exit); out = now (out .exit) } ≡ closingOld self (now (history .entry)) (now (scratch .entry)) (now (out .entry)) ⌝ }
+    {
+        close_under(true, self, history, scratch, out)
     }
 }
 
@@ -205,6 +203,28 @@ fn close_number(unfit: bool, history: usize, scratch: usize, out: usize) -> u8
     lists::either(unfit, refusals::UNSOUND, buffer)
 }
 
+// A close; where `old`, by the delay before A5.
+pub fn close_under(
+    old: bool,
+    s: Session,
+    history: &[u32],
+    scratch: &mut [u64],
+    out: &mut [u64],
+) -> Answer
+    ensures { λ r. ⌜ record { answer = r; history = now (history .entry); scratch = now (scratch .exit); out = now (out .exit) } ≡ closingBy (waitOf old) s (now (history .entry)) (now (scratch .entry)) (now (out .entry)) ⌝ }
+{
+    let d = table::delay_under(old, s.table, s.rule);
+    let number = close_number(d.number != 0, history.len(), scratch.len(), out.len());
+    if number != 0 {
+        return Answer {
+            number,
+            count: 0,
+            session: s,
+        };
+    }
+    finish(s, d.delay as usize, history, scratch, out)
+}
+
 // A feed that is accepted; d is the delay.
 fn advance(
     s: Session,
@@ -215,7 +235,7 @@ fn advance(
     out: &mut [u64],
 ) -> Answer
     requires { ⌜ Feedable s d (now block) (now history) (now scratch) (now out) ⌝ }
-    ensures { λ r. ⌜ record { answer = r; history = now (history .exit); scratch = now (scratch .exit); out = now (out .exit) } ≡ fed s (now (block .entry)) (now (history .entry)) (now (scratch .entry)) (now (out .entry)) ⌝ }
+    ensures { λ r. ⌜ record { answer = r; history = now (history .exit); scratch = now (scratch .exit); out = now (out .exit) } ≡ fed d s (now (block .entry)) (now (history .entry)) (now (scratch .entry)) (now (out .entry)) ⌝ }
 {
     let t = s.table;
     let rule = s.rule;
@@ -246,7 +266,7 @@ fn advance(
 // A close that is accepted; d is the delay.
 fn finish(s: Session, d: usize, history: &[u32], scratch: &mut [u64], out: &mut [u64]) -> Answer
     requires { ⌜ Closable s d (now history) (now scratch) (now out) ⌝ }
-    ensures { λ r. ⌜ record { answer = r; history = now (history .entry); scratch = now (scratch .exit); out = now (out .exit) } ≡ closed s (now (history .entry)) (now (scratch .entry)) (now (out .entry)) ⌝ }
+    ensures { λ r. ⌜ record { answer = r; history = now (history .entry); scratch = now (scratch .exit); out = now (out .exit) } ≡ closed d s (now (history .entry)) (now (scratch .entry)) (now (out .entry)) ⌝ }
 {
     let t = s.table;
     let rule = s.rule;

@@ -3,7 +3,8 @@ use Prim.Native.Nat.{ℕ, _≤_}
 use native.Mathlib.Omega.{arith}
 use mathlib.Core.Path.{_≡_, refl, ap, ap₂}
 use mathlib.Core.Bool.{true}
-use Rattle.mltl.specs.Mltl.{Formula, neg, and, or, F, G, U, R, delay}
+use Rattle.mltl.specs.Mltl.{Formula, neg, and, or, F, G, U, R, delayBy, delay}
+use Rattle.mltl.proofs.Delays.{until-no-longer}
 use Rattle.mltl.proofs.Laws.{Same, stay, _then_, neg-cong, and-cong, or-cong, F-cong, G-cong, U-cong, R-cong}
 use Rattle.table.specs.Nodes.{Op, Unknown, Signal, Top, Bottom, Not, And, Or, Finally, Globally, Until, Release, usesOf, formulaAs}
 use Rattle.table.specs.declared.Node.{Node}
@@ -42,7 +43,7 @@ equality = record {
 }
 
 betterment : Congruence Better
-unfolding delay
+unfolding delayBy
 betterment = record {
   stays = λ a. better-stay;
   of-neg = λ e. record { same = neg-cong (e .same); short = e .short };
@@ -50,8 +51,8 @@ betterment = record {
   of-or = λ e f. record { same = or-cong (e .same) (f .same); short = omega arith };
   of-F = λ lo hi e. record { same = F-cong (e .same); short = omega arith };
   of-G = λ lo hi e. record { same = G-cong (e .same); short = omega arith };
-  of-U = λ lo hi e f. record { same = U-cong (e .same) (f .same); short = omega arith };
-  of-R = λ lo hi e f. record { same = R-cong (e .same) (f .same); short = omega arith };
+  of-U = λ lo hi e f. record { same = U-cong (e .same) (f .same); short = until-no-longer lo hi _ _ _ _ (e .short) (f .short) };
+  of-R = λ lo hi e f. record { same = R-cong (e .same) (f .same); short = until-no-longer lo hi _ _ _ _ (e .short) (f .short) };
 }
 
 -- a node's formula depends on the operands that its kind uses, and not on their places

@@ -9,7 +9,8 @@ use lib.ListN.{getD}
 use lib.Dec.{eqb}
 use borrow.Author.Tests.{eqb-true, leb-true}
 use Rattle.lists.proofs.Tests.{or-split}
-use Rattle.mltl.specs.Mltl.{Formula, const, neg, and, or, F, G, U, R, delay}
+use Rattle.mltl.specs.Mltl.{Formula, const, neg, and, or, F, G, U, R, delayBy, delay}
+use Rattle.mltl.proofs.Delays.{until-right}
 use Rattle.mltl.proofs.Laws.{Same, _then_, not-not, not-const, F-now, G-now, U-now, R-now, F-F, G-G, F-and, F-or, G-and, G-or, F-false, G-true, U-false, R-true, and-true, and-false, and-self, and-comm, or-true, or-false, or-self, or-comm}
 use Rattle.table.specs.Nodes.{Op, Unknown, Signal, Top, Bottom, Not, And, Or, Finally, Globally, Until, Release, opOf, formulaAs, formulaOver}
 use Rattle.table.specs.declared.Node.{Node}
@@ -42,7 +43,7 @@ record Unary (o : Op) (fixed : ℕ) (T : ℕ → ℕ → Formula → Formula) : 
   T-T : (x : Formula) (lo hi c d : ℕ) → lo ≤ hi → c ≤ d → Same (T lo hi (T c d x)) (T (lo + c) (hi + d) x)
 
 unary-F : Unary Finally 3 F
-unfolding delay
+unfolding delayBy
 unary-F = record {
   is-T = λ m x y. refl;
   T-delay = λ lo hi x. refl;
@@ -52,7 +53,7 @@ unary-F = record {
 }
 
 unary-G : Unary Globally 2 G
-unfolding delay
+unfolding delayBy
 unary-G = record {
   is-T = λ m x y. refl;
   T-delay = λ lo hi x. refl;
@@ -68,12 +69,12 @@ record Binary (fixed : ℕ) (T : ℕ → ℕ → Formula → Formula → Formula
   T-fixed : (lo hi : ℕ) (m : Node) (z x y : Formula) → Same (T lo hi z (formulaAs (opOf fixed) m x y)) (formulaAs (opOf fixed) m x y)
 
 binary-U : Binary 3 U
-unfolding delay
-binary-U = record { T-delay = λ lo hi x y. omega arith; T-now = λ x y. U-now; T-fixed = λ lo hi m z x y. U-false }
+unfolding delayBy
+binary-U = record { T-delay = λ lo hi x y. omega (arith, until-right lo hi (delay x) (delay y)); T-now = λ x y. U-now; T-fixed = λ lo hi m z x y. U-false }
 
 binary-R : Binary 2 R
-unfolding delay
-binary-R = record { T-delay = λ lo hi x y. omega arith; T-now = λ x y. R-now; T-fixed = λ lo hi m z x y. R-true }
+unfolding delayBy
+binary-R = record { T-delay = λ lo hi x y. omega (arith, until-right lo hi (delay x) (delay y)); T-now = λ x y. R-now; T-fixed = λ lo hi m z x y. R-true }
 
 -- the laws of and, and of or; I and O are the operators of which the inner and the outer interval stays
 record Join (neutral absorbing inner outer : ℕ) (T : Formula → Formula → Formula) (I O : ℕ → ℕ → Formula → Formula) : Type 0 where
@@ -88,7 +89,7 @@ record Join (neutral absorbing inner outer : ℕ) (T : Formula → Formula → F
   T-delay : (x y : Formula) → (delay x ≤ delay (T x y)) × (delay y ≤ delay (T x y))
 
 join-and : Join 2 3 7 8 and F G
-unfolding delay
+unfolding delayBy
 join-and = record {
   is-neutral = λ m x y z. and-true;
   is-absorbing = λ m x y z. and-comm then and-false;
@@ -102,7 +103,7 @@ join-and = record {
 }
 
 join-or : Join 3 2 8 7 or G F
-unfolding delay
+unfolding delayBy
 join-or = record {
   is-neutral = λ m x y z. or-false;
   is-absorbing = λ m x y z. or-comm then or-true;
@@ -161,7 +162,7 @@ module _ (fs : List Formula) (n l r : Node) (el : formulaIn fs (n .left) ≡ for
     lo-zero e = omega arith
 
     not-meant : Meant (neg a) (lawNot l)
-    unfolding delay
+    unfolding delayBy
     not-meant =
         by-test (Meant _) (is 4 l) (λ h. rw (is-left 4 h) (record { same = not-not; short = omega arith }))
         (λ _. by-test (Meant _) (is 2 l) (λ h. rw (is-left 2 h) (record { same = not-const; short = omega arith }))

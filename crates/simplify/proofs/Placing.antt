@@ -7,7 +7,7 @@ use mathlib.Core.List.{List}
 use lib.ListN.{getD, length}
 use lib.Dec.{eqb}
 use borrow.Author.Tests.{eqb-true}
-use Rattle.mltl.specs.Mltl.{Formula, const, delay}
+use Rattle.mltl.specs.Mltl.{Formula, const, delayBy, delay}
 use Rattle.table.specs.Nodes.{Op, Unknown, Signal, Top, Bottom, Not, And, Or, Finally, Globally, Until, Release, opOf, usesOf, formulaAs, formulaOver}
 use Rattle.table.specs.Sound.{NodeFits}
 use Rattle.table.specs.declared.Node.{Node}
@@ -97,7 +97,7 @@ module _ (ns : List Node) (fits : AllFit ns) (free : (k : ℕ) → k < length ns
           (λ h. let k : l .kind ≡ n .kind = eqb-true _ _ h in (merged-fits k, merged-stays k)) (λ _. tt))
 
     placed-as : (o : Op) → op n ≡ o → Placed (lawAs n l r o)
-    unfolding delay
+    unfolding delayBy
     placed-as Unknown e = tt
     placed-as Signal e = tt
     placed-as Top e = tt

@@ -1,13 +1,13 @@
-// The delays of the nodes along a table, each from those before it; capped.
+// The delays of the nodes along a table, each from those before it; capped. Where `old`, as before A5.
 ghost use mathlib.Core.Path.{_≡_};
 ghost use mathlib.Core.List.{map};
-ghost use Prim.Native.Nat.{_≤_, max};
+ghost use Prim.Native.Nat.{_-_, _≤_, max};
 ghost use lib.ListN.{getD, take};
 ghost use Rattle.limits.specs.Limits.{maxNodes};
 ghost use Rattle.lists.specs.Choice.{pick};
 ghost use Rattle.lists.specs.Sequence.{every};
-ghost use Rattle.table.specs.Nodes.{delayOver, delays, cap};
-ghost use Rattle.table.specs.Code.Steps.{nodeDelay};
+ghost use Rattle.table.specs.Nodes.{measures, waitOf, cap};
+ghost use Rattle.table.specs.Code.Steps.{leftDelay, nodeDelay, nodeDelayOver};
 ghost use Rattle.table.specs.Sound.{short};
 use crate::Node;
 use crate::Table;
@@ -31,20 +31,40 @@ fn if_used(used: bool, x: u16) -> u16
     if used { x } else { 0 }
 }
 
+// One less; 0 stays 0.
+fn less_one(a: u16) -> u16
+    ensures { λ r. ⌜ r ≡ a - 1 ⌝ }
+{
+    if a < 1 { 0 } else { a - 1 }
+}
+
+// What the left operand of a node, whose delay is a, makes it wait beyond hi: all of it where it is read up to hi, else one state less, or none where
+// lo is hi.
+fn left_delay(whole: bool, n: Node, a: u16) -> u16
+    ensures { λ r. ⌜ r ≡ leftDelay whole (n .lo) (n .hi) a ⌝ }
+{
+    let before = less_one(a);
+    if whole {
+        return a;
+    }
+    if n.lo < n.hi { before } else { 0 }
+}
+
 // The delay of a node by those of its operands.
-fn delay_by(n: Node, a: u16, b: u16) -> u32
-    ensures { λ r. ⌜ r ≡ nodeDelay n a b ⌝ }
+fn delay_by(old: bool, n: Node, a: u16, b: u16) -> u32
+    ensures { λ r. ⌜ r ≡ nodeDelay old n a b ⌝ }
 {
     let u = uses_of(n.kind);
     let hi = if_used(u.interval, n.hi);
-    let d = larger(if_used(u.left, a), if_used(u.right, b));
+    let left = left_delay(old | !(u.interval & u.right), n, a);
+    let d = larger(if_used(u.left, left), if_used(u.right, b));
     hi as u32 + d as u32
 }
 
-fn capped_delay(n: Node, a: u16, b: u16) -> u16
-    ensures { λ r. ⌜ r ≡ cap (nodeDelay n a b) ⌝ }
+fn capped_delay(old: bool, n: Node, a: u16, b: u16) -> u16
+    ensures { λ r. ⌜ r ≡ cap (nodeDelay old n a b) ⌝ }
 {
-    let d = delay_by(n, a, b);
+    let d = delay_by(old, n, a, b);
     if d < OVERLONG as u32 {
         d as u16
     } else {
@@ -62,26 +82,26 @@ pub(crate) fn operand_delay(ds: &[u16; MAX_NODES], place: usize, at: u8) -> u16
 }
 
 // The delay of the node n at a place, capped, by those before it; 0 at once where it has no operand.
-pub(crate) fn delay_from(ds: &[u16; MAX_NODES], place: usize, n: Node) -> u16
+pub(crate) fn delay_from(old: bool, ds: &[u16; MAX_NODES], place: usize, n: Node) -> u16
     requires { ⌜ place ≤ maxNodes ⌝ }
-    ensures { λ r. ⌜ r ≡ cap (delayOver (take place (now (ds .entry))) n) ⌝ }
+    ensures { λ r. ⌜ r ≡ cap (nodeDelayOver old (take place (now (ds .entry))) n) ⌝ }
 {
     if n.kind < 4 {
         return 0;
     }
     let a = operand_delay(ds, place, n.left);
     let b = operand_delay(ds, place, n.right);
-    capped_delay(n, a, b)
+    capped_delay(old, n, a, b)
 }
 
 // The delays of all nodes, capped.
-pub(crate) fn all_delays(t: Table) -> [u16; MAX_NODES]
-    ensures { λ r. ⌜ r ≡ map cap (delays (t .nodes)) ⌝ }
+pub(crate) fn all_delays(old: bool, t: Table) -> [u16; MAX_NODES]
+    ensures { λ r. ⌜ r ≡ map cap (measures (waitOf old) (t .nodes)) ⌝ }
 {
     let mut ds = [0u16; MAX_NODES];
     let mut i: usize = 0;
     while i < MAX_NODES {
-        let d = delay_from(&ds, i, t.nodes[i]);
+        let d = delay_from(old, &ds, i, t.nodes[i]);
         ds[i] = d;
         i += 1;
     }

@@ -4,9 +4,11 @@ use native.Mathlib.Omega.{arith}
 use mathlib.Core.Path.{_≡_, refl, ap}
 use mathlib.Core.Logic.{_↔_}
 use mathlib.Core.List.{List, [], _∷_, _++_}
-use lib.ListN.{length}
+use mathlib.Core.Bool.{false}
+use lib.ListN.{length, getD}
 use Rattle.lists.proofs.Sequences.{length-snoc}
-use Rattle.mltl.specs.Mltl.{Formula}
+use Rattle.mltl.specs.Mltl.{Formula, signal, const, neg, and, or, F, G, U, R, delayBy, oldDelay}
+use Rattle.mltl.proofs.Delays.{delay-sooner}
 use Rattle.table.specs.Nodes.{noTable}
 use Rattle.table.specs.declared.Table.{Table}
 use Rattle.limits.specs.Limits.{maxDepth}
@@ -14,7 +16,7 @@ use Rattle.grammar.specs.Grammar.{Line}
 use Rattle.grammar.specs.Made.{nodesOf}
 use Rattle.text.specs.declared.Typed.{Typed}
 use Rattle.text.specs.Typing.{lineAdded, typed}
-use Rattle.text.specs.Accepted.{Lines, none, more, Accepted}
+use Rattle.text.specs.Accepted.{Lines, none, more, longestBy, AcceptedBy, longest, Accepted, StaysAccepted}
 use Rattle.text.specs.Outcome.{Reached, begins, goes-on, Outcome, empty, byte, deep, faulty, whole}
 use Rattle.text.proofs.Grows.{Refusal}
 use Rattle.text.proofs.Holds.{Holds, LineFits, Line as Taking, taken, turned, line}
@@ -84,3 +86,52 @@ accepted-in text a =
 -- THE LAW: accepted exactly
 pub accepted-exactly : (text : List ℕ) → (typed text .number ≡ 0) ↔ Accepted text
 accepted-exactly text = (outcome-accepted (outcome text), accepted-in text)
+
+-- ---- when the delay was the one before A5
+longest-sooner : (f : Formula) → longest f ≤ longestBy oldDelay f
+unfolding longestBy
+longest-sooner (signal n) = delay-sooner (signal n)
+longest-sooner (const b) = delay-sooner (const b)
+longest-sooner (neg a) = omega (arith, delay-sooner (neg a), longest-sooner a)
+longest-sooner (and a b) = omega (arith, delay-sooner (and a b), longest-sooner a, longest-sooner b)
+longest-sooner (or a b) = omega (arith, delay-sooner (or a b), longest-sooner a, longest-sooner b)
+longest-sooner (F lo hi a) = omega (arith, delay-sooner (F lo hi a), longest-sooner a)
+longest-sooner (G lo hi a) = omega (arith, delay-sooner (G lo hi a), longest-sooner a)
+longest-sooner (U lo hi a b) = omega (arith, delay-sooner (U lo hi a b), longest-sooner a, longest-sooner b)
+longest-sooner (R lo hi a b) = omega (arith, delay-sooner (R lo hi a b), longest-sooner a, longest-sooner b)
+
+-- then no part waited longer than the whole: the limit was that of the formula's own delay
+pub longest-old : (f : Formula) → longestBy oldDelay f ≡ oldDelay f
+unfolding longestBy delayBy
+longest-old (signal n) = refl
+longest-old (const b) = refl
+longest-old (neg a) = let p = longest-old a in omega arith
+longest-old (and a b) = let p = longest-old a in let q = longest-old b in omega arith
+longest-old (or a b) = let p = longest-old a in let q = longest-old b in omega arith
+longest-old (F lo hi a) = let p = longest-old a in omega arith
+longest-old (G lo hi a) = let p = longest-old a in omega arith
+longest-old (U lo hi a b) = let p = longest-old a in let q = longest-old b in omega arith
+longest-old (R lo hi a b) = let p = longest-old a in let q = longest-old b in omega arith
+
+pub stays-accepted : (text : List ℕ) (a : AcceptedBy oldDelay text) → StaysAccepted text a
+stays-accepted text a =
+    let w = a .within in
+    record {
+      accepted = record {
+        names = a .names;
+        formulas = a .formulas;
+        lines = a .lines;
+        within = record {
+          few-nodes = w .few-nodes;
+          some-rule = w .some-rule;
+          few-rules = w .few-rules;
+          numbers = w .numbers;
+          short = λ r h. omega (arith, w .short r h, longest-sooner (getD (a .formulas) r (const false)));
+          named = w .named;
+          largest = w .largest;
+          distinct = w .distinct;
+        };
+      };
+      names = refl;
+      formulas = refl;
+    }

@@ -4,7 +4,7 @@ use mathlib.Core.List.{[], _∷_, _++_}
 use lib.ListN.{replicate}
 use Rattle.lists.specs.Ascii.{ascii}
 use Rattle.lists.specs.Sequence.{padded, chain, every}
-use Rattle.mltl.specs.Mltl.{delay}
+use Rattle.mltl.specs.Mltl.{delayBy}
 use Rattle.table.specs.Nodes.{noNode, noRule}
 use Rattle.builder.specs.Adding.{addingNode, addingRule}
 use Rattle.grammar.specs.Machine.{depth, puts, unaryDone, plain, step, fate}
@@ -17,25 +17,25 @@ own-line : typed (ascii "7: F[1,3] s0\n")
       rules = padded noRule 8 (record { name = 7; watched = 1 } ∷ []);
       «rule_count» = 1;
     })
-unfolding typed typedFrom fate step plain puts unaryDone depth lineAdded grown addingNode addingRule chain delay every
+unfolding typed typedFrom fate step plain puts unaryDone depth lineAdded grown addingNode addingRule chain delayBy every
 own-line = refl
 
 -- the name 0, in the second line; the name of the first line again
 name-0 : typed (ascii "1:s0\n0:s0\n") ≡ refused 5 2
-unfolding typed typedFrom fate step plain puts unaryDone depth lineAdded grown addingNode addingRule chain delay every
+unfolding typed typedFrom fate step plain puts unaryDone depth lineAdded grown addingNode addingRule chain delayBy every
 name-0 = refl
 
 name-again : typed (ascii "1:s0\n1:s1\n") ≡ refused 10 2
-unfolding typed typedFrom fate step plain puts unaryDone depth lineAdded grown addingNode addingRule chain delay every
+unfolding typed typedFrom fate step plain puts unaryDone depth lineAdded grown addingNode addingRule chain delayBy every
 name-again = refl
 
 -- what is wrong with the first line comes before the syntax of the second
 signal-32 : typed (ascii "1:s32\n?") ≡ refused 5 1
-unfolding typed typedFrom fate step plain puts unaryDone depth lineAdded grown addingNode addingRule chain delay every
+unfolding typed typedFrom fate step plain puts unaryDone depth lineAdded grown addingNode addingRule chain delayBy every
 signal-32 = refl
 
 interval-2-1 : typed (ascii "1:F[2,1]s0\n") ≡ refused 6 1
-unfolding typed typedFrom fate step plain puts unaryDone depth lineAdded grown addingNode addingRule chain delay every
+unfolding typed typedFrom fate step plain puts unaryDone depth lineAdded grown addingNode addingRule chain delayBy every
 interval-2-1 = refl
 
 -- no text; a line without its end, behind another; an empty line
@@ -44,7 +44,7 @@ unfolding typed
 nothing = refl
 
 no-end : typed (ascii "1:s0\n2:s0") ≡ refused 32 9
-unfolding typed typedFrom fate step plain puts unaryDone depth lineAdded grown addingNode addingRule chain delay every
+unfolding typed typedFrom fate step plain puts unaryDone depth lineAdded grown addingNode addingRule chain delayBy every
 no-end = refl
 
 empty-line : typed (ascii "\n1:s0\n") ≡ refused 32 0
@@ -53,11 +53,11 @@ empty-line = refl
 
 -- nine rules; F[0,1] over F[0,4095]; 33 open brackets
 ninth-rule : typed (ascii "1:s0\n2:s0\n3:s0\n4:s0\n5:s0\n6:s0\n7:s0\n8:s0\n9:s0\n") ≡ refused 8 9
-unfolding typed typedFrom fate step plain puts unaryDone depth lineAdded grown addingNode addingRule chain delay every
+unfolding typed typedFrom fate step plain puts unaryDone depth lineAdded grown addingNode addingRule chain delayBy every
 ninth-rule = refl
 
 delay-4096 : typed (ascii "1:F[0,1]F[0,4095]s0\n") ≡ refused 9 1
-unfolding typed typedFrom fate step plain puts unaryDone depth lineAdded grown addingNode addingRule chain delay every
+unfolding typed typedFrom fate step plain puts unaryDone depth lineAdded grown addingNode addingRule chain delayBy every
 delay-4096 = refl
 
 brackets-33 : typed (ascii "1:" ++ replicate 33 40) ≡ refused 33 34

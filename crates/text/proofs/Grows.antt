@@ -1,5 +1,5 @@
 -- The nodes of a formula, added to a table: taken exactly within the limits, and then the last one means the formula. Assumes nothing.
-use Prim.Native.Nat.{ℕ, _+_, _-_, _≤_, _<_}
+use Prim.Native.Nat.{ℕ, _+_, _-_, _≤_, _<_, max}
 use native.Mathlib.Omega.{arith}
 use mathlib.Core.Path.{_≡_, refl, sym, ap, ap₂, subst, _∙_}
 use mathlib.Core.Logic.{⊎-elim}
@@ -13,7 +13,7 @@ use Rattle.lists.specs.Sequence.{among}
 use Rattle.lists.proofs.Tests.{and-right, or-left, or-right, true-or-false}
 use Rattle.lists.proofs.Rows.{no-row}
 use Rattle.lists.proofs.Sequences.{length-snoc, chain-last, chain-old}
-use Rattle.mltl.specs.Mltl.{Formula, signal, const, neg, and, or, F, G, U, R, delay}
+use Rattle.mltl.specs.Mltl.{Formula, signal, const, neg, and, or, F, G, U, R, delayBy, delay}
 use Rattle.interval.specs.Parts.{badInterval}
 use Rattle.table.specs.Nodes.{Op, Unknown, Signal, Top, Bottom, Not, And, Or, Finally, Globally, Until, Release, opOf, usesOf, noNode, formulaAs, formulaOver, formulas, formulaAt, delayOver, delays}
 use Rattle.table.specs.declared.Node.{Node}
@@ -30,7 +30,7 @@ use Rattle.grammar.specs.declared.Made.{Made}
 use Rattle.grammar.specs.Machine.{item, plainItem, build}
 use Rattle.grammar.specs.Made.{made, lists}
 use Rattle.text.specs.Typing.{inByte, inTwoBytes, nodeOf, added, grown}
-use Rattle.text.specs.Accepted.{size, FitInterval, NumbersFit}
+use Rattle.text.specs.Accepted.{size, FitInterval, NumbersFit, longestBy, longest}
 use Rattle.text.specs.Outcome.{lineFaults}
 
 -- the numbers of a line that is refused
@@ -169,7 +169,7 @@ module _ (ns : List Node) (rs : List Rule) (base : ℕ) (m : Made) where
 pub record Fits (n : ℕ) (f : Formula) : Type 0 where
   pub room : n + size f ≤ 64
   pub numbers : NumbersFit f
-  pub short : delay f ≤ 4095
+  pub short : longest f ≤ 4095
 
 -- a node with its numbers as they were typed, and its formula by those of its operands
 abbrev exact : Item → Node
@@ -239,7 +239,7 @@ module _ (base : ℕ) (t : Table) (rs : List Rule) where
 
     module _ (keeps : (k : ℕ) → k < length ns → formulaAt vs k ≡ formulaAt ns k) (longer : length ns ≤ length vs) (long : length vs + 1 ≡ length ns + size f)
         (p : badOperand before y ≡ false) (is : tree i (formulaAt vs (y .left)) (formulaAt vs (y .right)) ≡ f)
-        (from : NumbersFit f → Own i) (into : Own i → NumbersFit f) where
+        (from : NumbersFit f → Own i) (into : Own i → NumbersFit f) (parts : ℕ) (is-longest : longest f ≡ max (delay f) parts) (few : parts ≤ 4095) where
       means : Own i → formulaOver (formulas vs) y ≡ f
       means o = own-means base (length vs) i l _ _ o ∙ is
 
@@ -262,7 +262,7 @@ module _ (base : ℕ) (t : Table) (rs : List Rule) where
             fits = record {
               room = let h = node-room vs rs y r in omega arith;
               numbers = into o;
-              short = let h = node-short vs rs y r in let e = delay-is o in omega arith;
+              short = let h = node-short vs rs y r in let e = delay-is o in let k = is-longest in omega arith;
             };
             start = record {
               grew = grown-is ∙ ap₂ (λ (n : ℕ) (u : Table). added n u) z (node-taken before y z ∙ node-held vs rs y (node-room vs rs y r));
@@ -281,6 +281,7 @@ module _ (base : ℕ) (t : Table) (rs : List Rule) where
           let e = delay-is o in
           let h = w .room in
           let g = w .short in
+          let k = is-longest in
           z (within-taken vs rs base (made i l) p o (omega arith) (omega arith)))
           (subst Refusal (ap (λ (a : Added). a .number) (sym grown-is)) (taken-refusal vs rs base (made i l) p z))
 
@@ -294,12 +295,12 @@ module _ (base : ℕ) (t : Table) (rs : List Rule) where
 
   -- ---- an operator with one operand
   module _ (ns : List Node) (b : List Made) (i : Item) (g f : Formula) (long : size f ≡ size g + 1) (u : usesOf (opOf (i .kind)) .left ≡ true)
-      (is : (y : Formula) → tree i g y ≡ f) (from : NumbersFit f → Own i × NumbersFit g) (into : Own i → NumbersFit g → NumbersFit f) (less : delay g ≤ delay f) where
+      (is : (y : Formula) → tree i g y ≡ f) (from : NumbersFit f → Own i × NumbersFit g) (into : Own i → NumbersFit g → NumbersFit f) (is-longest : longest f ≡ max (delay f) (longest g)) where
     abbrev c : List Made
     c = build lists b g
 
     one-sub : Fits (length ns) f → Fits (length ns) g
-    one-sub w = record { room = let h = w .room in omega arith; numbers = from (w .numbers) .1; short = let h = w .short in omega arith }
+    one-sub w = record { room = let h = w .room in omega arith; numbers = from (w .numbers) .1; short = let h = w .short in let k = is-longest in omega arith }
 
     one : After ns g c → After ns f (c ++ (made i (length c - 1) ∷ []))
     one (unfit z r) = unfit (λ w. z (one-sub w)) (stays (stuck-one base t _ (stuck-none base t)) r)
@@ -314,12 +315,12 @@ module _ (base : ℕ) (t : Table) (rs : List Rule) where
         step ns vs c i (length c - 1) f (w .start) (w .keeps) (omega arith) (omega arith)
         (operands-before (tableHolding vs rs) n (λ e. omega arith) (λ e. rw e (omega arith)))
         (ap (λ (a : Formula). tree i a (formulaAt vs (n .right))) (ap (formulaAt vs) left ∙ w .last) ∙ is (formulaAt vs (n .right)))
-        (λ k. from k .0) (λ o. into o (w .fits .numbers))
+        (λ k. from k .0) (λ o. into o (w .fits .numbers)) (longest g) is-longest (w .fits .short)
 
   -- ---- an operator with two
   module _ (ns : List Node) (b : List Made) (i : Item) (g h f : Formula) (long : size f ≡ size g + size h + 1) (u : usesOf (opOf (i .kind)) .left ≡ true)
       (v : usesOf (opOf (i .kind)) .right ≡ true) (is : tree i g h ≡ f) (from : NumbersFit f → Own i × NumbersFit g × NumbersFit h)
-      (into : Own i → NumbersFit g → NumbersFit h → NumbersFit f) (left-less : delay g ≤ delay f) (right-less : delay h ≤ delay f) where
+      (into : Own i → NumbersFit g → NumbersFit h → NumbersFit f) (is-longest : longest f ≡ max (delay f) (max (longest g) (longest h))) where
     abbrev c₂ : List Made
     c₂ = build lists b g
 
@@ -328,7 +329,7 @@ module _ (base : ℕ) (t : Table) (rs : List Rule) where
 
     two-right : (w : Fit ns g c₂) → After (w .nodes) h d → After ns f (d ++ (made i (length c₂ - 1) ∷ []))
     two-right w (unfit z r) =
-        unfit (λ k. z (record { room = let q = k .room in let l = w .long in omega arith; numbers = from (k .numbers) .2; short = let q = k .short in omega arith }))
+        unfit (λ k. z (record { room = let q = k .room in let l = w .long in omega arith; numbers = from (k .numbers) .2; short = let q = k .short in let k = is-longest in omega arith }))
         (stays (stuck-one base t _ (stuck-none base t)) r)
     two-right w (fit s) =
         let us = w .nodes in
@@ -345,11 +346,11 @@ module _ (base : ℕ) (t : Table) (rs : List Rule) where
         (operands-before (tableHolding vs rs) n (λ e. omega arith) (λ e. omega arith))
         (ap₂ (λ (k l : ℕ). tree i (formulaAt vs k) (formulaAt vs l)) left right
         ∙ ap₂ (tree i) (s .keeps (length us - 1) (omega arith) ∙ w .last) (s .last) ∙ is)
-        (λ k. from k .0) (λ o. into o (w .fits .numbers) (s .fits .numbers))
+        (λ k. from k .0) (λ o. into o (w .fits .numbers) (s .fits .numbers)) (max (longest g) (longest h)) is-longest (let a = w .fits .short in let b = s .fits .short in omega arith)
 
     two : After ns g c₂ → ((w : Fit ns g c₂) → After (w .nodes) h d) → After ns f (d ++ (made i (length c₂ - 1) ∷ []))
     two (unfit z r) k =
-        unfit (λ w. z (record { room = let q = w .room in omega arith; numbers = from (w .numbers) .1; short = let q = w .short in omega arith }))
+        unfit (λ w. z (record { room = let q = w .room in omega arith; numbers = from (w .numbers) .1; short = let q = w .short in let k = is-longest in omega arith }))
         (stays (stuck-one base t _ (stuck base t h c₂)) r)
     two (fit w) k = two-right w (k w)
 
@@ -364,28 +365,28 @@ module _ (base : ℕ) (t : Table) (rs : List Rule) where
 
   -- THE LAW: the nodes of a formula
   pub after : (f : Formula) (b : List Made) (ns : List Node) → Start b ns → After ns f (build lists b f)
-  unfolding build size NumbersFit delay
+  unfolding build size NumbersFit delayBy longestBy
   after (signal n) b ns s =
       step ns ns b (item 1 n 0 0) (length b - 1) (signal n) s (λ k h. refl) (omega arith) (omega arith) refl refl
-      (λ h. record { signal = λ e. h; ordered = omega arith; short = omega arith }) (λ o. o .signal refl)
+      (λ h. record { signal = λ e. h; ordered = omega arith; short = omega arith }) (λ o. o .signal refl) 0 refl (omega arith)
   after (const true) b ns s =
-      step ns ns b (plainItem 2) (length b - 1) (const true) s (λ k h. refl) (omega arith) (omega arith) refl refl (λ h. own-plain 2) (λ o. omega arith)
+      step ns ns b (plainItem 2) (length b - 1) (const true) s (λ k h. refl) (omega arith) (omega arith) refl refl (λ h. own-plain 2) (λ o. omega arith) 0 refl (omega arith)
   after (const false) b ns s =
-      step ns ns b (plainItem 3) (length b - 1) (const false) s (λ k h. refl) (omega arith) (omega arith) refl refl (λ h. own-plain 3) (λ o. omega arith)
-  after (neg f) b ns s = one ns b (plainItem 4) f (neg f) refl refl (λ y. refl) (λ n. (own-plain 4, n)) (λ o n. n) (omega arith) (after f b ns s)
+      step ns ns b (plainItem 3) (length b - 1) (const false) s (λ k h. refl) (omega arith) (omega arith) refl refl (λ h. own-plain 3) (λ o. omega arith) 0 refl (omega arith)
+  after (neg f) b ns s = one ns b (plainItem 4) f (neg f) refl refl (λ y. refl) (λ n. (own-plain 4, n)) (λ o n. n) refl (after f b ns s)
   after (F lo hi f) b ns s =
-      one ns b (item 7 0 lo hi) f (F lo hi f) refl refl (λ y. refl) (λ n. (own-timed 7 (n .0), n .1)) (λ o n. (timed-own o, n)) (omega arith) (after f b ns s)
+      one ns b (item 7 0 lo hi) f (F lo hi f) refl refl (λ y. refl) (λ n. (own-timed 7 (n .0), n .1)) (λ o n. (timed-own o, n)) refl (after f b ns s)
   after (G lo hi f) b ns s =
-      one ns b (item 8 0 lo hi) f (G lo hi f) refl refl (λ y. refl) (λ n. (own-timed 8 (n .0), n .1)) (λ o n. (timed-own o, n)) (omega arith) (after f b ns s)
+      one ns b (item 8 0 lo hi) f (G lo hi f) refl refl (λ y. refl) (λ n. (own-timed 8 (n .0), n .1)) (λ o n. (timed-own o, n)) refl (after f b ns s)
   after (and f g) b ns s =
-      two ns b (plainItem 5) f g (and f g) refl refl refl refl (λ n. (own-plain 5, n .0, n .1)) (λ o n m. (n, m)) (omega arith) (omega arith)
+      two ns b (plainItem 5) f g (and f g) refl refl refl refl (λ n. (own-plain 5, n .0, n .1)) (λ o n m. (n, m)) refl
       (after f b ns s) (λ w. after g (build lists b f) (w .nodes) (w .start))
   after (or f g) b ns s =
-      two ns b (plainItem 6) f g (or f g) refl refl refl refl (λ n. (own-plain 6, n .0, n .1)) (λ o n m. (n, m)) (omega arith) (omega arith)
+      two ns b (plainItem 6) f g (or f g) refl refl refl refl (λ n. (own-plain 6, n .0, n .1)) (λ o n m. (n, m)) refl
       (after f b ns s) (λ w. after g (build lists b f) (w .nodes) (w .start))
   after (U lo hi f g) b ns s =
-      two ns b (item 9 0 lo hi) f g (U lo hi f g) refl refl refl refl (λ n. (own-timed 9 (n .0), n .1, n .2)) (λ o n m. (timed-own o, n, m)) (omega arith)
-      (omega arith) (after f b ns s) (λ w. after g (build lists b f) (w .nodes) (w .start))
+      two ns b (item 9 0 lo hi) f g (U lo hi f g) refl refl refl refl (λ n. (own-timed 9 (n .0), n .1, n .2)) (λ o n m. (timed-own o, n, m)) refl
+      (after f b ns s) (λ w. after g (build lists b f) (w .nodes) (w .start))
   after (R lo hi f g) b ns s =
-      two ns b (item 10 0 lo hi) f g (R lo hi f g) refl refl refl refl (λ n. (own-timed 10 (n .0), n .1, n .2)) (λ o n m. (timed-own o, n, m)) (omega arith)
-      (omega arith) (after f b ns s) (λ w. after g (build lists b f) (w .nodes) (w .start))
+      two ns b (item 10 0 lo hi) f g (R lo hi f g) refl refl refl refl (λ n. (own-timed 10 (n .0), n .1, n .2)) (λ o n m. (timed-own o, n, m)) refl
+      (after f b ns s) (λ w. after g (build lists b f) (w .nodes) (w .start))

@@ -10,7 +10,7 @@ use borrow.Author.Tests.{eqb-false, ne-eqb}
 use Rattle.lists.specs.Sequence.{among}
 use Rattle.lists.proofs.Tests.{or-left, or-right}
 use Rattle.lists.proofs.Sequences.{length-snoc, at-last, at-old, each-place, getD-padded, length-padded, chain-prefix}
-use Rattle.mltl.specs.Mltl.{Formula, const, delay}
+use Rattle.mltl.specs.Mltl.{Formula, const}
 use Rattle.table.specs.Nodes.{noNode, noRule, formulaOver, formulaAt}
 use Rattle.table.specs.declared.Rule.{Rule}
 use Rattle.table.specs.declared.Table.{Table}
@@ -18,7 +18,7 @@ use Rattle.builder.specs.declared.Added.{Added}
 use Rattle.builder.specs.Built.{tableHolding}
 use Rattle.grammar.specs.Made.{nodesOf}
 use Rattle.text.specs.Typing.{added, lineAdded}
-use Rattle.text.specs.Accepted.{Lines, none, more, sizes, NumbersFit, Within}
+use Rattle.text.specs.Accepted.{Lines, none, more, sizes, NumbersFit, Within, longest}
 use Rattle.text.specs.Outcome.{Reached, begins, goes-on, Watches}
 use Rattle.text.proofs.Grows.{refused-number}
 use Rattle.text.proofs.Holds.{Holds, LineFits, Line, taken, turned, sizes-snoc, line}
@@ -38,7 +38,7 @@ pub record Part (ns : List ℕ) (fs : List Formula) : Type 0 where
   pub few-nodes : sizes fs ≤ 64
   pub few-rules : length fs ≤ 8
   pub numbers : (k : ℕ) → k < length fs → NumbersFit (getD fs k (const false))
-  pub short : (k : ℕ) → k < length fs → delay (getD fs k (const false)) ≤ 4095
+  pub short : (k : ℕ) → k < length fs → longest (getD fs k (const false)) ≤ 4095
   pub named : (k : ℕ) → k < length ns → 1 ≤ getD ns k 0
   pub largest : (k : ℕ) → k < length ns → getD ns k 0 ≤ 255
   pub distinct : (j k : ℕ) → j < k → k < length ns → ¬ (getD ns j 0 ≡ getD ns k 0)
@@ -94,7 +94,7 @@ module _ (ns : List ℕ) (fs : List Formula) (n : ℕ) (f : Formula) where
         each-place fs f (λ k. NumbersFit (getD fs′ k (const false))) (λ k h. rw (at-old fs f (const false) k h) (p .numbers k h))
         (rw (at-last fs f (const false)) (l .formula .numbers));
     short =
-        each-place fs f (λ k. delay (getD fs′ k (const false)) ≤ 4095) (λ k h. rw (at-old fs f (const false) k h) (p .short k h))
+        each-place fs f (λ k. longest (getD fs′ k (const false)) ≤ 4095) (λ k h. rw (at-old fs f (const false) k h) (p .short k h))
         (rw (at-last fs f (const false)) (l .formula .short));
     named = each-place ns n (λ k. 1 ≤ getD ns′ k 0) (λ k h. rw (at-old ns n 0 k h) (p .named k h)) (rw (at-last ns n 0) (l .named));
     largest = each-place ns n (λ k. getD ns′ k 0 ≤ 255) (λ k h. rw (at-old ns n 0 k h) (p .largest k h)) (rw (at-last ns n 0) (l .largest));
@@ -120,7 +120,7 @@ module _ (ns : List ℕ) (fs : List Formula) (n : ℕ) (f : Formula) where
           few-nodes = let e = sizes-snoc fs f in let r = p .few-nodes in omega arith;
           few-rules = let r = p .few-rules in omega arith;
           numbers = λ k h. subst NumbersFit (at-old fs f (const false) k h) (p .numbers k (omega arith));
-          short = λ k h. subst (λ (g : Formula). delay g ≤ 4095) (at-old fs f (const false) k h) (p .short k (omega arith));
+          short = λ k h. subst (λ (g : Formula). longest g ≤ 4095) (at-old fs f (const false) k h) (p .short k (omega arith));
           named = λ k h. subst (λ (m : ℕ). 1 ≤ m) (at-old ns n 0 k h) (p .named k (omega arith));
           largest = λ k h. subst (λ (m : ℕ). m ≤ 255) (at-old ns n 0 k h) (p .largest k (omega arith));
           distinct = λ j k l h e. p .distinct j k l (omega arith) (at-old ns n 0 j (omega arith) ∙ e ∙ sym (at-old ns n 0 k h));
@@ -133,7 +133,7 @@ module _ (ns : List ℕ) (fs : List Formula) (n : ℕ) (f : Formula) where
           formula = record {
             room = let e = sizes-snoc fs f in let r = p .few-nodes in omega arith;
             numbers = subst NumbersFit (at-last fs f (const false)) (p .numbers (length fs) formula-place);
-            short = subst (λ (g : Formula). delay g ≤ 4095) (at-last fs f (const false)) (p .short (length fs) formula-place);
+            short = subst (λ (g : Formula). longest g ≤ 4095) (at-last fs f (const false)) (p .short (length fs) formula-place);
           };
           room = let r = p .few-rules in omega arith;
           named = subst (λ (m : ℕ). 1 ≤ m) (at-last ns n 0) (p .named (length ns) name-place);

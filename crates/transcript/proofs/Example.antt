@@ -4,7 +4,7 @@ use mathlib.Core.List.{List, [], _∷_}
 use Prim.Native.Nat.{ℕ}
 use Rattle.lists.specs.Bits.{bit}
 use Rattle.lists.specs.Sequence.{every, chain}
-use Rattle.mltl.specs.Mltl.{holds, delay, someFrom, someTick, everyTick, eventually, until, opposite, always, release}
+use Rattle.mltl.specs.Mltl.{holds, delayBy, someFrom, someTick, everyTick, eventually, until, opposite, always, release}
 use Rattle.book.specs.Entries.{usesIn}
 use Rattle.book.specs.Reading.{reading, headFault, fault, along}
 use Rattle.simplify.specs.declared.Simplified.{Simplified}
@@ -42,5 +42,5 @@ module _ (read : reading book .number ≡ 0) (simplified : Simplified) (promised
   start = record { source = mission.book book; read = read; simplified = simplified; promised = promised; accepted = accepted; rule = 0; opened = opened; history = history }
 
   pub worked-example : printed start input ≡ output
-  unfolding bit printed reading headFault fault along usesIn chain every delay holds someFrom someTick everyTick eventually until opposite always release lineAfter placesFrom decimal row rowsFrom
+  unfolding bit printed reading headFault fault along usesIn chain every delayBy holds someFrom someTick everyTick eventually until opposite always release lineAfter placesFrom decimal row rowsFrom
   worked-example = refl

@@ -14,6 +14,7 @@ use Rattle.lists.specs.Sequence.{ticks}
 use Rattle.lists.specs.Bits.{bitAt}
 use Rattle.lists.proofs.Tests.{true-or-false}
 use Rattle.lists.proofs.Sequences.{length-ticks, concatMap-snoc}
+use Rattle.mltl.specs.Mltl.{delay}
 use Rattle.table.proofs.Soundness.{watched-short}
 use Rattle.session.specs.declared.Session.{Session}
 use Rattle.session.specs.Session.{Effect, feeding, closing, unfit, withSeen, delayOf as delayIn}
@@ -45,7 +46,7 @@ either false e f = f
 
 -- ---- the session that was opened is fit
 first-fit : (m : Start) → unfit (sessionOf m) ≡ false
-first-fit m = opened-fit (m .simplified .table) (m .rule) (m .opened)
+first-fit m = opened-fit false (m .simplified .table) (m .rule) (m .opened)
 
 module _ (m : Start) where
   abbrev D : ℕ
@@ -105,7 +106,7 @@ module _ (m : Start) where
 
     -- ---- the session
     same-session : s ≡ withSeen (sessionOf m) (length fed)
-    same-session = session-is m wide (r .calls) (asWide s) h false (r .reached)
+    same-session = session-is false m wide (r .calls) (asWide s) h false (r .reached)
 
     seen-is : s .seen ≡ length fed
     seen-is = ap (λ (q : Session). q .seen) same-session
@@ -114,18 +115,18 @@ module _ (m : Start) where
     fit = rw same-session (first-fit m)
 
     delay-is : delayIn s ≡ D
-    delay-is = rw (same-session, opened-is (m .simplified .table) (m .rule) (m .opened))
+    delay-is = rw (same-session, opened-is false (m .simplified .table) (m .rule) (m .opened))
 
     -- a rule of a sound table has a short delay
     pub delay-short : delayIn s ≤ 4095
     delay-short =
         let u = m .simplified .table in
         rw delay-is
-        (watched-short u (m .rule) (opened-sound u (m .rule) (m .opened)) (opened-rule u (m .rule) (m .opened)))
+        (watched-short false u (m .rule) (opened-sound false u (m .rule) (m .opened)) (opened-rule false u (m .rule) (m .opened)))
 
     -- the count of states is within its limit, and so are the ticks whose verdicts a close gives
     counted : s .seen ≤ maxSeen
-    counted = seen-within m wide (r .calls) (asWide s) h false (r .reached)
+    counted = seen-within false m wide (r .calls) (asWide s) h false (r .reached)
 
     pub ticks-within : tick + min (s .seen) (delayIn s) ≤ maxSeen
     ticks-within = rw delay-is (omega (arith, seen-is, r .next, going .sum, counted))
@@ -158,7 +159,7 @@ module _ (m : Start) where
 
       number-is : answer .answer .number ≡ pick (ltb maxSeen (s .seen + length waiting)) 24 0
       number-is =
-          feed-number s h x o maxSeen waiting
+          feed-number delay s h x o maxSeen waiting
           ∙ rw (fit, le-ltb 1024 (length waiting) (r .fits), le-ltb (length h) 4095 hh, le-ltb (length x) 5280 hx, le-ltb (length o) 16 ho)
 
       pub running-fed : last ≡ false → answer .answer .number ≡ 0
@@ -217,7 +218,7 @@ module _ (m : Start) where
       closeCall = record { act = close; session = asWide s; history = h; scratch = x; out = o; effect = closed }
 
       pub close-accepted : closed .answer .number ≡ 0
-      close-accepted = close-number s h x o ∙ rw (fit, le-ltb (length h) 4095 hh, le-ltb (length x) 5280 hx, le-ltb (length o) 64 ho)
+      close-accepted = close-number delay s h x o ∙ rw (fit, le-ltb (length h) 4095 hh, le-ltb (length x) 5280 hx, le-ltb (length o) 64 ho)
 
       pub printed-all : line .digits ≡ 0 → waiting ≡ [] → printed m read ≡ shown ++ rowsNamed (ruleName m) tick (ticks (bitAt (closed .out)) (closed .answer .count))
       unfolding printed parsedFrom

@@ -13,7 +13,8 @@ use Rattle.limits.specs.Limits.{maxSeen}
 use Rattle.lists.specs.Sequence.{ticks}
 use Rattle.lists.specs.Bits.{bitAt}
 use Rattle.session.specs.declared.Answer.{Answer}
-use Rattle.session.specs.Session.{Effect, opening, fed, feeding, closing, delayOf, unfit}
+use Rattle.mltl.specs.Mltl.{delay}
+use Rattle.session.specs.Session.{Effect, openingBy, opening, fed, feeding, closing, delayOf, unfit}
 use Rattle.session.proofs.Answers.{feed-fits}
 use Rattle.session.proofs.Effects.{feed-accepted, close-accepted as close-is}
 use Rattle.table.specs.declared.Table.{Table}
@@ -61,7 +62,7 @@ module _ (t : Table) (s : Simplified) (promised : Promised t s) (d : Rule) where
     some-rule = sound-iff (s .table) .0 (simpler .sound) .some-rule
 
     opens : opening (s .table) 0 .number ≡ 0
-    unfolding opening
+    unfolding openingBy
     opens = rw (simpler .sound, lt-leb (s .table .«rule_count») 0 some-rule)
 
     first-name : getD (s .table .rules) 0 d .name ≡ nameIn (t .rules) 0
@@ -120,8 +121,8 @@ module _ (p : Progress) (at : ℕ) (h block x o : List ℕ) (a : Answer) (h' x' 
     };
   }
 
-  accepted : a .number ≡ 0 → record { answer = a; history = h'; scratch = x'; out = o' } ≡ fed (p .session) (take (p .count) block) h x o
-  accepted n = is ∙ feed-accepted (p .session) h x o maxSeen (take (p .count) block) (ap (λ (y : Effect). y .answer .number) (sym is) ∙ n) .0
+  accepted : a .number ≡ 0 → record { answer = a; history = h'; scratch = x'; out = o' } ≡ fed (delayOf (p .session)) (p .session) (take (p .count) block) h x o
+  accepted n = is ∙ feed-accepted delay (p .session) h x o maxSeen (take (p .count) block) (ap (λ (y : Effect). y .answer .number) (sym is) ∙ n) .0
 
   count-is : a .number ≡ 0
       → a .count ≡ (p .session .seen + length (take (p .count) block) - delayOf (p .session)) - (p .session .seen - delayOf (p .session))
@@ -132,7 +133,7 @@ module _ (p : Progress) (at : ℕ) (h block x o : List ℕ) (a : Answer) (h' x' 
 
   seen-fits : a .number ≡ 0 → p .session .seen + length (take (p .count) block) ≤ maxSeen
   seen-fits n =
-      let q = feed-accepted (p .session) h x o maxSeen (take (p .count) block) (ap (λ (y : Effect). y .answer .number) (sym is) ∙ n) .1 in
+      let q = feed-accepted delay (p .session) h x o maxSeen (take (p .count) block) (ap (λ (y : Effect). y .answer .number) (sym is) ∙ n) .1 in
       feed-fits maxSeen (unfit (p .session)) (p .session .seen) (length (take (p .count) block)) (length h) (length x) (length o) q .count
 
   -- no tick passes the limit of the count
@@ -181,7 +182,7 @@ module _ (p : Progress) (h x o : List ℕ) (a : Answer) (x' o' : List ℕ)
   pub close-always : (text text' : List ℕ) (used : ℕ) → Put text 0 (fitting (p .name) (p .tick) o' (a .count)) text' used → Closes p h text' used
   close-always text text' used put m last read shown block runs d z =
       let q = close-accepted m (runs .0) x o hh hx ho in
-      let y = is ∙ close-is (p .session) h x o q .0 in
+      let y = is ∙ close-is delay (p .session) h x o q .0 in
       let k : a .count ≡ min (p .session .seen) (delayOf (p .session)) = ap (λ (e : Effect). e .answer .count) y in
       let short : delayOf (p .session) ≤ 4095 = delay-short m (runs .0) in
       let w = put-bytes put ∙ fitting-is (p .name) (p .tick) o' (a .count) (omega (arith, k, short)) (rw k (ticks-within m (runs .0))) in

@@ -4,7 +4,7 @@ use mathlib.Core.Path.{_≡_}
 use native.Mathlib.Omega.{arith}
 use borrow.Author.Needs.{needs}
 use lib.ListN.{length}
-use Rattle.session.proofs.Answers.{fit-short, kept-short, fit-rule, fit-node, lent-part, feed-writes, feed-is}
+use Rattle.session.proofs.Answers.{kept-short, fit-rule, fit-node, lent-part, feed-writes, feed-is}
 use Rattle.session.proofs.advance.Statement.{statement}
 use Rattle.session.proofs.advance.Tie as tie
 
@@ -50,7 +50,7 @@ keeps c κs =
     let l = counted (written c) .before .before in
     let s = start l in
     let a = s .args in
-    let g : a .d ≤ 4095 = fit-short (s .pre .fit) in
+    let g : a .d ≤ 4095 = s .pre .fit .short in
     let n : 4095 ≤ length (a .history .now) = s .pre .fit .history-words in
     let f : length (a .block .now) ≤ 1024 = s .pre .few in
     let p : l .lesser .result ≡ min (a .s .seen) (a .d) = l .lesser .ensures in

@@ -1,12 +1,13 @@
 -- The number decides, and what it needs is there where it is 0. Assumes nothing.
 use mathlib.Core.Path.{_≡_, sym, ap, _∙_}
-use mathlib.Core.Bool.{Bool}
+use mathlib.Core.Bool.{Bool, false}
 use borrow.Author.Needs.{needs}
 use lib.ListN.{length}
 use Rattle.limits.specs.Limits.{maxSeen}
 use Rattle.lists.specs.Choice.{first}
-use Rattle.session.specs.Session.{unfit, feedRows, feedNumber}
-use Rattle.session.proofs.Answers.{unfit-is, fit-is, feed-fits, fed-refused, fed-accepted}
+use Rattle.mltl.specs.Mltl.{delay}
+use Rattle.session.specs.Session.{unfit, feedRows, feedNumberBy}
+use Rattle.session.proofs.Answers.{unfit-is, delay-is, fit-is, FeedFits, feed-fits, fed-refused, fed-accepted}
 use Rattle.session.proofs.Session.feed.Statement.{statement}
 use Rattle.session.proofs.Session.feed.Tie as tie
 
@@ -21,32 +22,41 @@ abbrev advanced : tie.After-slice-known6 → tie.After-advance
 advanced c = c .before .before .before .before .before .before
 
 number : (c : tie.After-feed-number) → c .feed-number .result
-    ≡ feedNumber maxSeen (start c .args .self) (length (start c .args .block .now)) (length (start c .args .history .now)) (length (start c .args .scratch .now)) (length (start c .args .out .now))
+    ≡ feedNumberBy delay maxSeen (start c .args .self) (length (start c .args .block .now)) (length (start c .args .history .now)) (length (start c .args .scratch .now)) (length (start c .args .out .now))
 number c =
     let a = start c .args in
     c .feed-number .ensures
     ∙ ap (λ (b : Bool). first (feedRows maxSeen b (a .self .seen) (length (a .block .now)) (length (a .history .now)) (length (a .scratch .now)) (length (a .out .now))))
-    (unfit-is (a .self) (c .before .before .delay .ensures))
+    (unfit-is false (a .self) (c .before .before .delay .ensures))
 
 returns : tie.Need-returns
 returns c =
     let a = start (c .before) .args in
     fed-refused (a .self) (a .block .now) (a .history .now) (a .scratch .now) (a .out .now) (number (c .before)) (c .if1 .taken)
 
+-- what the number 0 says
+fits : (c : tie.After-feed-number) → c .feed-number .result ≡ 0 → let a = start c .args in
+    FeedFits maxSeen (unfit (a .self)) (a .self .seen) (length (a .block .now)) (length (a .history .now)) (length (a .scratch .now)) (length (a .out .now))
+fits c z =
+    let a = start c .args in
+    feed-fits maxSeen (unfit (a .self)) (a .self .seen) (length (a .block .now)) (length (a .history .now)) (length (a .scratch .now)) (length (a .out .now)) (sym (number c) ∙ z)
+
 ready : tie.Need-advance-requires
 ready c κs =
     let e = c .before .before .before .before in
     let n = e .before in
     let a = start n .args in
-    let f = feed-fits maxSeen (unfit (a .self)) (a .self .seen) (length (a .block .now)) (length (a .history .now)) (length (a .scratch .now)) (length (a .out .now)) (sym (number n) ∙ e .if1 .left) in
-    record { fit = fit-is (a .self) (n .before .before .delay .ensures) (f .fit) (f .history) (f .scratch); few = f .few; seen = f .count; out-words = f .out }
+    let f = fits n (e .if1 .left) in
+    record { fit = fit-is false (a .self) (n .before .before .delay .ensures) (f .fit) (f .history) (f .scratch); few = f .few; seen = f .count; out-words = f .out }
 
 returns-2 : tie.Need-returns-2
 returns-2 c =
     let f = advanced c in
     let e = accepted f in
-    let a = start (e .before) .args in
-    fed-accepted (a .self) (a .block .now) (a .history .now) (a .scratch .now) (a .out .now) (number (e .before)) (e .if1 .left) (f .advance .ensures)
+    let n = e .before in
+    let a = start n .args in
+    fed-accepted (a .self) (a .block .now) (a .history .now) (a .scratch .now) (a .out .now) (number n) (e .if1 .left)
+    (delay-is false (a .self) (n .before .before .delay .ensures) (fits n (e .if1 .left) .fit)) (f .advance .ensures)
 
 pub feed-spec : {M : Type 1} → statement M
 feed-spec =

@@ -1,7 +1,7 @@
--- The base's claim without changes, and another measure. Assumes nothing.
+-- The base's claim without changes. Assumes nothing.
 use Prim.Native.Nat.{ℕ, _-_, min}
 use native.Mathlib.Omega.{arith}
-use mathlib.Core.Path.{_≡_, refl, sym, ap, _∙_, subst}
+use mathlib.Core.Path.{_≡_, refl, ap, _∙_, subst}
 use mathlib.Core.Bool.{Bool, true, false, false≢true}
 use mathlib.Core.List.{List, [], _∷_, _++_}
 use lib.ListN.{length, take}
@@ -12,10 +12,9 @@ use Rattle.acts.specs.World.{World, Width, Session, Act, feed, close, wi
 use Rattle.acts.specs.Calls.{Call, isAccepted, statesFed, verdictsGiven, Rules, opened, rulesBy, ruled, Calls, HeldUnder, GoingUnder, EndedUnder, ClaimUnder, kept}
 use Rattle.acts.specs.Demand.{opening, sessionBy}
 use Rattle.acts.specs.Claim.{Going, Ended, Claim}
-use Rattle.acts.specs.Corollaries.{keepsRule, unchanged, WithoutChanges, Measure, under, WaitsLonger, SecondClose, NoVerdictChanges}
+use Rattle.acts.specs.WithoutChanges.{keepsRule, unchanged, WithoutChanges}
 use Rattle.acts.proofs.Listed.{come}
 
--- ---- 1. without changes
 module _ (w : World) where
   same-rule : (a : Act (w .Rule) (w .Source)) (accepts : Bool) (f : ℕ) (p : Rules w) → keepsRule w a ≡ true → pick accepts (ruled w a f p) p ≡ p
   same-rule (feed block) true f p k = refl
@@ -70,16 +69,3 @@ module _ (w : World) where
   without-changes width r b start cs s h ended o l u =
       claim-base r b start h (statesFed w cs) (verdictsGiven w cs) ended
       (subst (λ (p : Rules w). ClaimUnder w p start ended h (statesFed w cs) (verdictsGiven w cs)) (one-rule (opened r b) cs u) (come w width r b o start l .claim))
-
--- ---- 2. another measure
-pub waits-longer : (w : World) → WaitsLonger w
-waits-longer w D′ le r xs ys t h = w .stable r xs ys t (let l = le r in omega arith)
-
-module _ (w : World) (m : Measure w) where
-  pub second-close : SecondClose w m
-  second-close width r b start cs s h o l u = without-changes (under w m) width r b start cs s h true o l u
-
-  pub no-verdict-changes : NoVerdictChanges w m
-  no-verdict-changes width width′ r b start start′ cs cs′ s s′ h h′ o l u l′ u′ e =
-      second-close width r b start cs s h o l u .exact ∙ ap (λ (xs : List ℕ). ticks (w .val b xs) (length xs)) e
-      ∙ sym (without-changes w width′ r b start′ cs′ s′ h′ true o l′ u′ .exact)
