@@ -70,7 +70,7 @@ enum {
     JUNTREAK_INTERVAL = 6,  /* lo > hi or hi > 4095; splitting answers it with record 0 */
     JUNTREAK_OPERAND = 7,   /* operand not an earlier node */
     JUNTREAK_FULL = 8,      /* 65th node or 9th rule */
-    JUNTREAK_LONG = 9,      /* delay above 4095 */
+    JUNTREAK_LONG = 9,      /* delay of a node above 4095 */
     JUNTREAK_NAME = 10,     /* name already used */
     JUNTREAK_RULELESS = 11, /* chain ended without a rule, record 0; or an empty text, line 0 */
     /* Tables and sessions. */
@@ -113,7 +113,7 @@ enum {
 /* of juntreak_early: the number, and the value */
 #define JUNTREAK_EARLY_NUMBER(answer) ((uint32_t)(answer) % 256)
 #define JUNTREAK_EARLY_VALUE(answer) ((uint32_t)(answer) / 256)
-/* of juntreak_feed and juntreak_close: the number, and the count of verdicts */
+/* of juntreak_feed and of both closes: the number, and the count of verdicts */
 #define JUNTREAK_CALL_NUMBER(answer) ((uint32_t)(answer))
 #define JUNTREAK_CALL_COUNT(answer) ((uint32_t)((uint64_t)(answer) >> 32))
 
@@ -206,8 +206,13 @@ uint64_t juntreak_read_text(const uint8_t *text, size_t n,
 uint32_t juntreak_write(const uint8_t table[JUNTREAK_TABLE_BYTES],
                         uint8_t *out, size_t n);
 
-/* The delay of a rule. Answers number + 65536 * delay, numbers 0, 25, 21;
- * the delay is 0 if refused. */
+/* The delay of a rule, which is that of its watched node: how many later
+ * states a verdict waits for. Signal, true, false: 0. Not: its operand's. And,
+ * or: the larger. F, G: hi + the operand's. U, R: if lo = hi, hi + the right
+ * operand's, otherwise hi + the larger of the left's less one (0 stays 0) and
+ * the right's; so a left operand may have a larger delay than its user.
+ * Answers number + 65536 * delay, numbers 0, 25, 21; the delay is 0 if
+ * refused. */
 uint32_t juntreak_delay(const uint8_t table[JUNTREAK_TABLE_BYTES],
                         uint32_t rule);
 
@@ -262,10 +267,12 @@ uint32_t juntreak_open(const uint8_t table[JUNTREAK_TABLE_BYTES],
  * buffer: call it once, before this library's first other call on the session.
  * Answers the number: 0, or 25 if its table is not sound, its rule number not
  * below the rule count, or its seen above 4294967295. If it is 0, the session
- * is written, with the same table, rule number and seen: it goes on with the
- * same history, as if it had been opened by juntreak_open and fed all that the
- * narrow one was fed. Bytes do not tell which library left them: a session of
- * this one is taken too while its seen is in range. */
+ * is written, with the same table, rule number and seen. The earlier library
+ * had the old delay: a session whose rule has U or R is then ended with
+ * juntreak_close_old. Any other goes on with the same history, as if it had
+ * been opened by juntreak_open and fed all that the narrow one was fed. Bytes
+ * do not tell which library left them: a session of this one is taken too
+ * while its seen is in range. */
 uint32_t juntreak_widen(const uint8_t narrow[JUNTREAK_NARROW_BYTES],
                         uint8_t session[JUNTREAK_SESSION_BYTES]);
 
@@ -301,6 +308,19 @@ uint64_t juntreak_close(uint8_t session[JUNTREAK_SESSION_BYTES],
                         const uint32_t *history, size_t h,
                         uint64_t *scratch, size_t x,
                         uint64_t *out, size_t o);
+
+/* Ends the trace of a session that was opened and fed under the old delay, by
+ * an earlier library; a narrow one is widened first. The old delay of U and R
+ * is hi + the larger of both operands'. It does as juntreak_close does, but D
+ * is the old delay of the session's rule, and 25 asks that every node's old
+ * delay is at most 4095. No verdict differs between the two delays. The
+ * session is then as juntreak_open leaves it; before, it is not fed and not
+ * closed otherwise, because its history holds as many states as the old delay
+ * asks for. */
+uint64_t juntreak_close_old(uint8_t session[JUNTREAK_SESSION_BYTES],
+                            const uint32_t *history, size_t h,
+                            uint64_t *scratch, size_t x,
+                            uint64_t *out, size_t o);
 
 #ifdef __cplusplus
 }

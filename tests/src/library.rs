@@ -23,6 +23,7 @@ mod raw {
         pub fn juntreak_widen(narrow: *const NarrowBytes, session: *mut SessionBytes) -> u32;
         pub fn juntreak_feed(session: *mut SessionBytes, block: *const u32, k: usize, history: *mut u32, h: usize, scratch: *mut u64, x: usize, out: *mut u64, o: usize) -> u64;
         pub fn juntreak_close(session: *mut SessionBytes, history: *const u32, h: usize, scratch: *mut u64, x: usize, out: *mut u64, o: usize) -> u64;
+        pub fn juntreak_close_old(session: *mut SessionBytes, history: *const u32, h: usize, scratch: *mut u64, x: usize, out: *mut u64, o: usize) -> u64;
     }
 }
 
@@ -98,5 +99,11 @@ pub fn feed(session: &mut SessionBytes, block: &[u32], history: &mut [u32], scra
 /// The number and the count.
 pub fn close(session: &mut SessionBytes, history: &[u32], scratch: &mut [u64], out: &mut [u64]) -> (u32, u32) {
     let r = unsafe { raw::juntreak_close(session, history.as_ptr(), history.len(), scratch.as_mut_ptr(), scratch.len(), out.as_mut_ptr(), out.len()) };
+    (r as u32, (r >> 32) as u32)
+}
+
+/// The number and the count.
+pub fn close_old(session: &mut SessionBytes, history: &[u32], scratch: &mut [u64], out: &mut [u64]) -> (u32, u32) {
+    let r = unsafe { raw::juntreak_close_old(session, history.as_ptr(), history.len(), scratch.as_mut_ptr(), scratch.len(), out.as_mut_ptr(), out.len()) };
     (r as u32, (r >> 32) as u32)
 }

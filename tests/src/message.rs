@@ -20,7 +20,7 @@ fn sentence(number: u32) -> String {
         ARGUMENT => format!("A signal is above s{MAX_SIGNAL}, or the rule's name is 0 or above {MAX_NAME}."),
         INTERVAL => format!("An interval [a,b] has a above b, or b above {MAX_INTERVAL}."),
         FULL => format!("Up to this line there are more than {MAX_NODES} atoms and operators, or more than {MAX_RULES} rules."),
-        LONG => format!("The rule waits for more than {MAX_DELAY} later states."),
+        LONG => format!("The rule or a part of it waits for more than {MAX_DELAY} later states."),
         NAME => "An earlier line has the same name.".into(),
         RULELESS => "The text is empty: it has no rule.".into(),
         SYNTAX => "At the mark the line goes on, or ends, as no rule does; the last line needs a line end too.".into(),

@@ -30,6 +30,30 @@ pub struct Table {
     pub rules: Vec<Rule>,
 }
 
+/// The delay that U and R have: that of document 02, request A5, or that of document 01, which was read before it.
+#[derive(Clone, Copy, Debug, PartialEq, Eq)]
+pub enum Delay {
+    New,
+    Old,
+}
+
+impl Delay {
+    /// The delay of a node over nodes with these delays.
+    pub fn of(self, n: &Node, before: &[u32]) -> u32 {
+        let (hi, left, right) = (n.hi as u32, || before[n.left as usize], || before[n.right as usize]);
+        match n.kind {
+            1..=3 => 0,
+            4 => left(),
+            5 | 6 => left().max(right()),
+            7 | 8 => hi + left(),
+            9 | 10 if self == Delay::Old => hi + left().max(right()),
+            9 | 10 if n.lo == n.hi => hi + right(),
+            9 | 10 => hi + left().saturating_sub(1).max(right()),
+            _ => unreachable!(),
+        }
+    }
+}
+
 impl Table {
     /// The bytes of the C interface.
     pub fn bytes(&self) -> [u8; TABLE_BYTES] {
@@ -55,19 +79,16 @@ impl Table {
 
     /// The delay of each node.
     pub fn delays(&self) -> Vec<u32> {
-        let mut d: Vec<u32> = vec![];
+        self.delays_under(Delay::New)
+    }
+
+    /// The same under either delay.
+    pub fn delays_under(&self, delay: Delay) -> Vec<u32> {
+        let mut delays = vec![];
         for n in &self.nodes {
-            let at = |p: u8| d[p as usize];
-            d.push(match n.kind {
-                1..=3 => 0,
-                4 => at(n.left),
-                5 | 6 => at(n.left).max(at(n.right)),
-                7 | 8 => n.hi as u32 + at(n.left),
-                9 | 10 => n.hi as u32 + at(n.left).max(at(n.right)),
-                _ => unreachable!(),
-            });
+            delays.push(delay.of(n, &delays));
         }
-        d
+        delays
     }
 
     /// The verdicts of the node at a place, at every tick.
@@ -122,7 +143,12 @@ impl Table {
 
     /// The delay of a rule.
     pub fn rule_delay(&self, rule: usize) -> u32 {
-        self.delays()[self.rules[rule].watched as usize]
+        self.rule_delay_under(Delay::New, rule)
+    }
+
+    /// The same under either delay.
+    pub fn rule_delay_under(&self, delay: Delay, rule: usize) -> u32 {
+        self.delays_under(delay)[self.rules[rule].watched as usize]
     }
 
     /// The verdicts of a rule.
@@ -168,6 +194,11 @@ fn verdict(n: &Node, t: usize, states: &[u32], columns: &[Vec<bool>]) -> bool {
 
 /// What the interface's bytes say, if they are a sound table's.
 pub fn sound(b: &[u8; TABLE_BYTES]) -> Option<Table> {
+    sound_under(Delay::New, b)
+}
+
+/// The same under either delay.
+pub fn sound_under(delay: Delay, b: &[u8; TABLE_BYTES]) -> Option<Table> {
     let (nodes, rules) = (b[NODE_COUNT_AT] as usize, b[RULE_COUNT_AT] as usize);
     if nodes > MAX_NODES || rules == 0 || rules > MAX_RULES {
         return None;
@@ -202,7 +233,7 @@ pub fn sound(b: &[u8; TABLE_BYTES]) -> Option<Table> {
         }
         t.nodes.push(n);
     }
-    if t.delays().iter().any(|d| *d as usize > MAX_DELAY) {
+    if t.delays_under(delay).iter().any(|d| *d as usize > MAX_DELAY) {
         return None;
     }
     for i in 0..MAX_RULES {
@@ -442,19 +473,19 @@ impl Session {
         b
     }
 
-    fn delay(&self) -> u64 {
-        self.table.rule_delay(self.rule as usize) as u64
+    fn delay(&self, delay: Delay) -> u64 {
+        self.table.rule_delay_under(delay, self.rule as usize) as u64
     }
 
     /// How many states history holds.
-    fn held(&self) -> usize {
-        self.seen.min(self.delay()) as usize
+    fn held(&self, delay: Delay) -> usize {
+        self.seen.min(self.delay(delay)) as usize
     }
 }
 
-/// What the interface's bytes say, if they are a session's of this width.
-pub fn session(width: Width, b: &[u8; SESSION_BYTES]) -> Option<Session> {
-    let table = sound(b[..TABLE_BYTES].try_into().unwrap())?;
+/// What the interface's bytes say, if they are a session's of this width under this delay.
+pub fn session(width: Width, delay: Delay, b: &[u8; SESSION_BYTES]) -> Option<Session> {
+    let table = sound_under(delay, b[..TABLE_BYTES].try_into().unwrap())?;
     let rule = u32::from_le_bytes(b[RULE_NUMBER_AT..SEEN_AT].try_into().unwrap());
     let seen = u64::from_le_bytes(b[SEEN_AT..].try_into().unwrap());
     if rule as usize >= table.rules.len() || seen > width.last() {
@@ -464,8 +495,8 @@ pub fn session(width: Width, b: &[u8; SESSION_BYTES]) -> Option<Session> {
 }
 
 /// The number of an opening, and the session after it.
-pub fn open(table: &[u8; TABLE_BYTES], rule: u32, session: &mut [u8; SESSION_BYTES]) -> u32 {
-    match sound(table) {
+pub fn open(delay: Delay, table: &[u8; TABLE_BYTES], rule: u32, session: &mut [u8; SESSION_BYTES]) -> u32 {
+    match sound_under(delay, table) {
         None => UNSOUND,
         Some(t) if rule as usize >= t.rules.len() => ABSENT,
         Some(table) => {
@@ -477,14 +508,22 @@ pub fn open(table: &[u8; TABLE_BYTES], rule: u32, session: &mut [u8; SESSION_BYT
 
 /// The number of a widening, and the session after it.
 pub fn widen(narrow: &[u8; NARROW_BYTES], session_bytes: &mut [u8; SESSION_BYTES]) -> u32 {
-    let Some(s) = session(Width::Narrow, narrow) else { return UNSOUND };
+    let Some(s) = session(Width::Narrow, Delay::New, narrow) else { return UNSOUND };
     *session_bytes = s.bytes();
     OK
 }
 
 /// The number and the count of a feed, and the session and buffers after it.
-pub fn feed(width: Width, session_bytes: &mut [u8; SESSION_BYTES], block: &[u32], history: &mut [u32], scratch: &mut [u64], out: &mut [u64]) -> (u32, u32) {
-    let Some(mut s) = session(width, session_bytes) else { return (UNSOUND, 0) };
+pub fn feed(
+    width: Width,
+    delay: Delay,
+    session_bytes: &mut [u8; SESSION_BYTES],
+    block: &[u32],
+    history: &mut [u32],
+    scratch: &mut [u64],
+    out: &mut [u64],
+) -> (u32, u32) {
+    let Some(mut s) = session(width, delay, session_bytes) else { return (UNSOUND, 0) };
     if block.len() > MAX_BLOCK {
         return (STATES, 0);
     }
@@ -492,25 +531,25 @@ pub fn feed(width: Width, session_bytes: &mut [u8; SESSION_BYTES], block: &[u32]
         return (BUFFER, 0);
     }
     let Some(after) = s.seen.checked_add(block.len() as u64).filter(|after| *after <= width.last()) else { return (SEEN, 0) };
-    let d = s.delay();
-    let trace: Vec<u32> = [&history[..s.held()], block].concat();
+    let d = s.delay(delay);
+    let trace: Vec<u32> = [&history[..s.held(delay)], block].concat();
     let count = (after.saturating_sub(d) - s.seen.saturating_sub(d)) as usize;
     write_verdicts(&mut out[..FEED_WORDS], &s.table.rule_verdicts(s.rule as usize, &trace)[..count]);
     s.seen = after;
-    let kept = s.held();
+    let kept = s.held(delay);
     history[..kept].copy_from_slice(&trace[trace.len() - kept..]);
     scratch[..SCRATCH_WORDS].fill(0);
     *session_bytes = s.bytes();
     (OK, count as u32)
 }
 
-/// The number and the count of a close, and the session and buffers after it.
-pub fn close(width: Width, session_bytes: &mut [u8; SESSION_BYTES], history: &[u32], scratch: &mut [u64], out: &mut [u64]) -> (u32, u32) {
-    let Some(mut s) = session(width, session_bytes) else { return (UNSOUND, 0) };
+/// The number and the count of a close, and the session and buffers after it. A wide one under the old delay is the second close.
+pub fn close(width: Width, delay: Delay, session_bytes: &mut [u8; SESSION_BYTES], history: &[u32], scratch: &mut [u64], out: &mut [u64]) -> (u32, u32) {
+    let Some(mut s) = session(width, delay, session_bytes) else { return (UNSOUND, 0) };
     if history.len() < HISTORY_WORDS || scratch.len() < SCRATCH_WORDS || out.len() < CLOSE_WORDS {
         return (BUFFER, 0);
     }
-    let held = s.held();
+    let held = s.held(delay);
     write_verdicts(&mut out[..CLOSE_WORDS], &s.table.rule_verdicts(s.rule as usize, &history[..held]));
     scratch[..SCRATCH_WORDS].fill(0);
     s.seen = 0;

@@ -269,7 +269,12 @@ impl Table {
         }
         let left = if node.kind >= 4 { base + node.left as usize } else { 0 };
         let right = if matches!(node.kind, 5 | 6 | 9 | 10) { at - 1 } else { 0 };
-        let inner = if node.kind >= 4 { self.delays[left].max(self.delays[at - 1]) } else { 0 };
+        let (of_left, of_right) = if node.kind >= 4 { (self.delays[left], self.delays[at - 1]) } else { (0, 0) };
+        let inner = match node.kind {
+            9 | 10 if node.lo == node.hi => of_right,
+            9 | 10 => of_left.saturating_sub(1).max(of_right),
+            _ => of_left.max(of_right),
+        };
         let delay = node.hi + inner;
         if delay as usize > MAX_DELAY {
             return Err(LONG);

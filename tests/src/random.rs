@@ -1,7 +1,10 @@
 //! Random numbers, tables, books, typed rules and traces.
-use crate::header::limits::{MAX_DELAY, MAX_DEPTH, MAX_NODES, MAX_RECORDS, MAX_RULES, MAX_SIGNAL, NODE_COUNT_AT, RECORD_BYTES, RULE_COUNT_AT, TABLE_BYTES};
+use crate::header::limits::{
+    MAX_BLOCK, MAX_DELAY, MAX_DEPTH, MAX_NARROW_SEEN, MAX_NODES, MAX_RECORDS, MAX_RULES, MAX_SEEN, MAX_SIGNAL, NODE_COUNT_AT, RECORD_BYTES, RULE_COUNT_AT,
+    SESSION_BYTES, TABLE_BYTES,
+};
 use crate::header::places::rule_at;
-use crate::model::{law_at, sound, unused, Node, Rule, Table};
+use crate::model::{law_at, sound, sound_under, unused, Delay, Node, Rule, Table};
 use crate::typed::{depth, tokens, Line, Part};
 use crate::written::{node_record, rule_record, NEXT};
 
@@ -30,7 +33,7 @@ impl Random {
     }
 }
 
-/// An interval whose upper limit is at most `room`; small ones, single points and the whole room are frequent.
+/// An interval whose upper limit is at most `room`, and now and then just that; small ones, single points and the whole room are frequent.
 fn interval(r: &mut Random, room: u16) -> (u16, u16) {
     let top = match r.below(6) {
         0 => 0,
@@ -38,38 +41,42 @@ fn interval(r: &mut Random, room: u16) -> (u16, u16) {
         2 => room.min(70),
         _ => room.min(9),
     };
-    let hi = r.below(top as u64 + 1) as u16;
+    let hi = if r.chance(20) { room } else { r.below(top as u64 + 1) as u16 };
     let lo = if r.chance(4) { hi } else { r.below(hi as u64 + 1) as u16 };
     (lo, hi)
+}
+
+/// An interval for a node over nodes with these delays: its own stays at most `longest`. At a single point, U and R do not wait for the left operand.
+fn interval_over(r: &mut Random, n: &Node, delays: &[u32], longest: usize) -> (u16, u16) {
+    let room = |lo, hi| (longest as u32 + hi as u32 - Delay::New.of(&Node { lo, hi, ..*n }, delays)) as u16;
+    if r.chance(8) {
+        let (_, point) = interval(r, room(0, 0));
+        return (point, point);
+    }
+    interval(r, room(0, 1))
 }
 
 /// A sound table with `count` nodes, whose delays stay at most `longest`.
 pub fn table(r: &mut Random, count: usize, longest: usize) -> Table {
     let mut t = Table { nodes: vec![], rules: vec![] };
-    let mut delays: Vec<u16> = vec![];
+    let mut delays: Vec<u32> = vec![];
     for i in 0..count {
         let kind = if i == 0 { r.pick(&[1, 1, 2, 3]) } else { r.pick(&[1, 1, 2, 3, 4, 4, 5, 5, 6, 6, 7, 7, 8, 8, 9, 9, 10, 10]) };
         let mut n = Node { kind, arg: 0, lo: 0, hi: 0, left: 0, right: 0 };
         if kind == 1 {
             n.arg = if r.chance(3) { r.below(MAX_SIGNAL as u64 + 1) as u8 } else { r.below(3) as u8 };
         }
-        let (mut a, mut b) = (0, 0);
         if kind >= 4 {
             // Mostly a near operand, so that formulas are deep.
             n.left = (if r.chance(2) { i - 1 } else { r.below(i as u64) as usize }) as u8;
-            a = delays[n.left as usize];
         }
         if matches!(kind, 5 | 6 | 9 | 10) {
             n.right = r.below(i as u64) as u8;
-            b = delays[n.right as usize];
         }
-        let inner = a.max(b);
         if kind >= 7 {
-            let (lo, hi) = interval(r, longest as u16 - inner);
-            n.lo = lo;
-            n.hi = hi;
+            (n.lo, n.hi) = interval_over(r, &n, &delays, longest);
         }
-        delays.push(n.hi + inner);
+        delays.push(Delay::New.of(&n, &delays));
         t.nodes.push(n);
     }
     let rules = 1 + r.below(MAX_RULES as u64) as usize;
@@ -227,6 +234,11 @@ pub fn bytes(r: &mut Random, n: usize) -> Vec<u8> {
     words(r, n.div_ceil(8)).into_iter().flat_map(u64::to_le_bytes).take(n).collect()
 }
 
+/// A session's bytes of dirt.
+pub fn session_bytes(r: &mut Random) -> [u8; SESSION_BYTES] {
+    bytes(r, SESSION_BYTES).try_into().unwrap()
+}
+
 /// Words of dirt.
 pub fn words(r: &mut Random, n: usize) -> Vec<u64> {
     (0..n).map(|_| r.next()).collect()
@@ -235,6 +247,41 @@ pub fn words(r: &mut Random, n: usize) -> Vec<u64> {
 /// Short words of dirt.
 pub fn short_words(r: &mut Random, n: usize) -> Vec<u32> {
     (0..n).map(|_| r.next() as u32).collect()
+}
+
+/// The length of a block.
+pub fn block_length(r: &mut Random) -> usize {
+    let top = r.pick(&[1, 2, 10, 70, 130, 130, MAX_BLOCK as u64 + 1]);
+    r.below(top) as usize
+}
+
+/// A count of states: a small one, one beside the limits of both widths or beside a carry from byte to byte, or any.
+pub fn any_count(r: &mut Random) -> u64 {
+    let near = r.pick(&[0, 1, 3, 100, 1100]);
+    match r.below(6) {
+        0 => r.pick(&[0, 1, 3, 100, 4095, 5000]),
+        1 => MAX_NARROW_SEEN as u64 - near,
+        2 => MAX_NARROW_SEEN as u64 + near,
+        3 => MAX_SEEN as u64 - near,
+        4 => (1 << r.pick(&[8, 16, 24, 40, 48, 56, 63])) - r.pick(&[0, 1, 3, 100]),
+        _ => r.next() >> r.below(64),
+    }
+}
+
+/// The same of a session of a rule with this delay, often beside it, in its low half or whole.
+pub fn count_beside(r: &mut Random, delay: u32) -> u64 {
+    let beside = (delay as u64).saturating_sub(r.below(3)) + r.below(3);
+    match r.below(4) {
+        0 => beside,
+        1 => (1 << r.pick(&[32, 33, 40, 48, 56, 63])) + beside,
+        _ => any_count(r),
+    }
+}
+
+/// The number of a rule that a table with so many has not.
+pub fn absent_rule(r: &mut Random, rules: usize) -> u32 {
+    let rules = rules as u32;
+    r.pick(&[rules, rules + 1, 8, 255, 256, 1 << 16, 1 << 24, u32::MAX])
 }
 
 /// One to three bytes of a table or session changed, often at its counts, its first nodes, its rules or its end.
@@ -273,16 +320,8 @@ pub fn asked(r: &mut Random, unsound: bool, absent: bool) -> ([u8; TABLE_BYTES],
     while unsound && sound(&bytes).is_some() {
         damage(r, &mut bytes);
     }
-    let rules = t.rules.len() as u32;
-    let rule = if absent { r.pick(&[rules, rules + 1, 8, 256, u32::MAX]) } else { r.below(rules as u64) as u32 };
+    let rule = if absent { absent_rule(r, t.rules.len()) } else { r.below(t.rules.len() as u64) as u32 };
     (bytes, rule)
-}
-
-/// The delay of the operands of a node.
-fn inner(delays: &[u32], n: &Node) -> u32 {
-    let left = if n.kind >= 4 { delays[n.left as usize] } else { 0 };
-    let right = if matches!(n.kind, 5 | 6 | 9 | 10) { delays[n.right as usize] } else { 0 };
-    left.max(right)
 }
 
 /// A place of one of the kinds, if there is one.
@@ -377,11 +416,10 @@ pub fn redundant(r: &mut Random, count: usize, longest: usize) -> Table {
             drawn = true;
             plain(r, &t)
         });
-        let inside = inner(&delays, &n);
         if n.kind >= 7 && drawn {
-            (n.lo, n.hi) = interval(r, longest as u16 - inside as u16);
+            (n.lo, n.hi) = interval_over(r, &n, &delays, longest);
         }
-        delays.push(n.hi as u32 + inside);
+        delays.push(Delay::New.of(&n, &delays));
         t.nodes.push(n);
     }
     let rules = 1 + r.below(MAX_RULES as u64) as usize;
@@ -403,6 +441,27 @@ pub fn any_table(r: &mut Random, count: usize, longest: usize) -> Table {
     }
 }
 
+/// A table that is sound under both delays.
+pub fn old_table(r: &mut Random, count: usize, longest: usize) -> Table {
+    loop {
+        let t = any_table(r, count, longest);
+        if sound_under(Delay::Old, &t.bytes()).is_some() {
+            return t;
+        }
+    }
+}
+
+/// A table that is sound under the new delay alone.
+pub fn new_table(r: &mut Random) -> Table {
+    loop {
+        let count = 4 + r.below(MAX_NODES as u64 - 3) as usize;
+        let t = any_table(r, count, MAX_DELAY);
+        if sound_under(Delay::Old, &t.bytes()).is_none() {
+            return t;
+        }
+    }
+}
+
 /// A sound table that no law of simplifying fits.
 pub fn law_free(r: &mut Random, count: usize, longest: usize) -> Table {
     loop {
@@ -417,15 +476,14 @@ pub fn law_free(r: &mut Random, count: usize, longest: usize) -> Table {
             if i >= 4 && n.kind >= 4 {
                 n.left = i as u8 - 1;
             }
-            let inside = inner(&delays, &n);
             if n.kind >= 7 {
-                (n.lo, n.hi) = interval(r, longest as u16 - inside as u16);
+                (n.lo, n.hi) = interval_over(r, &n, &delays, longest);
             }
             t.nodes.push(n);
             if law_at(&t, i).is_some() {
                 t.nodes.pop();
             } else {
-                delays.push(n.hi as u32 + inside);
+                delays.push(Delay::New.of(&n, &delays));
             }
         }
         let mut watched = unused(&t);
@@ -444,8 +502,8 @@ pub fn law_free(r: &mut Random, count: usize, longest: usize) -> Table {
     }
 }
 
-/// The parts of a formula with `count` nodes, operands before users, whose delay is at most `room`.
-fn formula(r: &mut Random, count: usize, room: u16) -> Vec<Part> {
+/// The parts of a formula with `count` nodes, operands before users, whose delay is at most `room`, and that of each part at most `longest`.
+fn formula(r: &mut Random, count: usize, room: u16, longest: u16) -> Vec<Part> {
     let kind = match count {
         1 => r.pick(&[1, 1, 1, 2, 3]),
         2 => r.pick(&[4, 7, 8]),
@@ -457,10 +515,15 @@ fn formula(r: &mut Random, count: usize, room: u16) -> Vec<Part> {
     let mut parts = vec![];
     if part.operands() == 2 {
         let first = 1 + r.below(count as u64 - 2) as usize;
-        parts = formula(r, first, room - hi);
+        let left = match kind {
+            9 | 10 if lo == hi => longest,
+            9 | 10 => longest.min(room - hi + 1),
+            _ => room,
+        };
+        parts = formula(r, first, left, longest);
     }
     if part.operands() > 0 {
-        parts.extend(formula(r, count - 1 - parts.len(), room - hi));
+        parts.extend(formula(r, count - 1 - parts.len(), room - hi, longest));
     }
     parts.push(part);
     parts
@@ -471,7 +534,7 @@ pub fn lines(r: &mut Random, counts: &[usize], longest: usize) -> Vec<Line> {
     let mut lines: Vec<Line> = vec![];
     while lines.len() < counts.len() {
         let name = lines.last().map_or(0, |line| line.name) + 1 + r.below(31) as u32;
-        let line = Line { name, formula: formula(r, counts[lines.len()], longest as u16) };
+        let line = Line { name, formula: formula(r, counts[lines.len()], longest as u16, longest as u16) };
         if depth(&tokens(&line, || false)) <= MAX_DEPTH {
             lines.push(line);
         }

@@ -67,7 +67,8 @@ fn sound(t: &Parsed) -> Option<[u32; MAX_NODES]> {
             4 => a,
             5 | 6 => a.max(b),
             7 | 8 => n.hi as u32 + a,
-            _ => n.hi as u32 + a.max(b),
+            _ if n.lo == n.hi => n.hi as u32 + b,
+            _ => n.hi as u32 + a.saturating_sub(1).max(b),
         };
         if delays[i] > MAX_DELAY as u32 {
             return None;

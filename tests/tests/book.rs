@@ -37,6 +37,12 @@ fn finally(hi: usize, left: u8) -> Record {
     [7, 0, 0, 0, h[0], h[1], left, 0, 0, 0, 0, 0]
 }
 
+/// U or R over F[0,left] s0 and F[0,right] s0, with a rule that watches it. The records are 1 to 5.
+fn until(kind: u8, left: usize, [lo, hi]: [usize; 2], right: usize) -> Vec<u8> {
+    let (l, h) = ((lo as u16).to_le_bytes(), (hi as u16).to_le_bytes());
+    chained(&[SIGNAL, finally(left, 1), finally(right, 1), [kind, 0, l[0], l[1], h[0], h[1], 2, 3, 0, 0, 0, 0], rule(9, 4)])
+}
+
 #[test]
 fn random_valid_and_damaged_books() {
     let mut r = Random(1);
@@ -59,6 +65,9 @@ fn random_valid_and_damaged_books() {
         seen[compare(&chained(&many), 7) as usize] += 1;
         let hi = MAX_DELAY - 5 + round % 8;
         seen[compare(&chained(&[SIGNAL, finally(3, 1), finally(hi, 2), rule(9, 3)]), 7) as usize] += 1;
+        let (left, right) = (r.below(6) as usize, r.below(4) as usize);
+        let lo = if r.chance(2) { hi.min(MAX_INTERVAL) } else { r.below(20) as usize };
+        seen[compare(&until(9 + round as u8 % 2, left, [lo, hi.min(MAX_INTERVAL)], right), 7) as usize] += 1;
         let again = 1 + (round % 3) as u8;
         seen[compare(&chained(&[SIGNAL, rule(1, 1), rule(2, 1), rule(again, 1)]), 7) as usize] += 1;
         seen[compare(&chained(&vec![SIGNAL; 1 + round % 9]), 7) as usize] += 1;
@@ -97,6 +106,13 @@ fn worked_examples() {
     assert_eq!(check_book(&own), LINK + 256);
     assert_eq!(check_book(&chained(&[SIGNAL, finally(MAX_DELAY, 1), rule(1, 2)])), OK);
     assert_eq!(check_book(&chained(&[SIGNAL, finally(MAX_DELAY, 1), finally(1, 2), rule(1, 3)])), LONG + 256 * 3);
+    for kind in [9, 10] {
+        assert_eq!(check_book(&until(kind, 96, [0, 4000], 95)), OK);
+        assert_eq!(check_book(&until(kind, 97, [0, 4000], 95)), LONG + 256 * 4);
+        assert_eq!(check_book(&until(kind, 96, [0, 4000], 96)), LONG + 256 * 4);
+        assert_eq!(check_book(&until(kind, MAX_DELAY, [4000, 4000], 95)), OK);
+        assert_eq!(check_book(&until(kind, MAX_DELAY, [4000, 4000], 96)), LONG + 256 * 4);
+    }
     assert_eq!(check_book(&[]), LENGTH);
     assert_eq!(check_book(&[0; RECORD_BYTES]), RULELESS);
     assert_eq!(check_book(&[0; BOOK_BYTES]), RULELESS);

@@ -56,6 +56,14 @@ fn a_narrow_session_goes_on_beyond_its_count() {
 }
 
 #[test]
+fn a_session_under_the_old_delay_is_ended() {
+    let old = "old session, close_old, 5 verdicts:\n7 3 1\n7 4 0\n7 5 0\n7 6 0\n7 7 1\n";
+    let fed = "new session, feed, 4 verdicts:\n7 0 0\n7 1 1\n7 2 1\n7 3 1\n";
+    let closed = "new session, close, 4 verdicts:\n7 4 0\n7 5 0\n7 6 0\n7 7 1\n";
+    assert_eq!(printed("close_old"), format!("{old}{fed}{closed}"));
+}
+
+#[test]
 fn the_rows_are_those_worked_by_hand() {
     assert_eq!(printed("rows"), include_str!("../../examples/rows.txt"));
 }

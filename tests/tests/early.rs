@@ -72,7 +72,7 @@ fn every_prefix_at_every_tick() {
     let mut answered = Count::default();
     // Of those left open, by the verdict that closing the trace then gives.
     let mut open = [0u64; 2];
-    for _ in 0..400 {
+    for _ in 0..500 {
         let count = r.below(MAX_NODES as u64) as usize + 1;
         let count = r.pick(&[count, 1 + count % 8, 1 + count % 8, 1 + count % 20]);
         let longest = r.pick(&[MAX_DELAY, 300, 70, 20, 9, 9]);
@@ -164,6 +164,9 @@ fn nested() -> Vec<Table> {
         // (G p) R q, p R (F q)
         vec![(8, 1, 1, P, 0), (10, 0, 2, 4, Q)],
         vec![(7, 0, 1, Q, 0), (10, 1, 2, P, 4)],
+        // (G p) U q, (F p) R q at a single tick, which the left does not reach
+        vec![(8, 0, 3, P, 0), (9, 1, 1, 4, Q)],
+        vec![(7, 0, 2, P, 0), (10, 2, 2, 4, Q)],
         // (p U q) R !(q R p)
         vec![(9, 0, 1, P, Q), (10, 0, 1, Q, P), (4, 0, 0, 5, 0), (10, 0, 2, 4, 6)],
         // (p R q) U (p U q)
@@ -472,7 +475,7 @@ fn limits() {
 fn damaged_tables() {
     let mut r = Random(49);
     let mut seen = [0u32; NUMBERS];
-    for _ in 0..3_000 {
+    for _ in 0..4_000 {
         let count = 1 + r.below(MAX_NODES as u64) as usize;
         let t = table(&mut r, count, 300);
         let bytes = damaged_table(&mut r, &t);

@@ -6,7 +6,7 @@ use juntreak_tests::header::limits::{
 use juntreak_tests::header::places::SEEN_AT;
 use juntreak_tests::header::refusals::{BUFFER, OK, SEEN, STATES, UNSOUND};
 use juntreak_tests::header::NUMBERS;
-use juntreak_tests::model::{self, Session, Table, Width::Wide};
+use juntreak_tests::model::{self, Delay, Session, Table, Width::Wide};
 use juntreak_tests::naive::Stream;
 use juntreak_tests::queue::Monitor;
 use juntreak_tests::random::{damage, short_words, table, trace, words, Random};
@@ -43,10 +43,10 @@ fn naive_verdicts(t: &Table, rule: usize, states: &[u32], block: usize) -> Vec<b
     given
 }
 
-/// The queue-based monitor, fed tick by tick and in blocks of several lengths: its verdicts are right, in order, and none that is settled is missing. Answers how
-/// many it gave before they were settled.
+/// The queue-based monitor, fed tick by tick and in blocks of several lengths: its verdicts are right, in order, and none that is settled is missing. It reads
+/// both operands of U and R up to the same tick, and so waits as long as the old delay says. Answers how many it gave before they were settled.
 fn queue_compared(t: &Table, rule: usize, states: &[u32], right: &[bool]) -> usize {
-    let settled = states.len().saturating_sub(t.rule_delay(rule) as usize);
+    let settled = states.len().saturating_sub(t.rule_delay_under(Delay::Old, rule) as usize);
     let mut given = vec![stepped_verdicts(t, rule, states)];
     given.extend([1, 7, 64, MAX_BLOCK].map(|k| queue_verdicts(t, rule, states, k)));
     for g in &given {
@@ -146,7 +146,7 @@ fn twin_sessions() {
             damage(&mut r, &mut bytes);
         }
         let (mut opened, mut wanted) = ([0xaa; SESSION_BYTES], [0xaa; SESSION_BYTES]);
-        assert_eq!(twin::open(&bytes, rule, &mut opened), model::open(&bytes, rule, &mut wanted));
+        assert_eq!(twin::open(&bytes, rule, &mut opened), model::open(Delay::New, &bytes, rule, &mut wanted));
         assert_eq!(opened, wanted);
         let mut session = Session { table: t, rule, seen: 0 }.bytes();
         let mut history = short_words(&mut r, HISTORY_WORDS + 1);
@@ -158,9 +158,9 @@ fn twin_sessions() {
             spoil(&mut r, &mut session, &mut block, &mut history, &mut scratch, &mut out);
             let (mut s, mut h, mut x, mut o) = (session, history.clone(), scratch.clone(), out.clone());
             let (got, wanted) = if r.chance(5) {
-                (twin::close(&mut session, &history, &mut scratch, &mut out), model::close(Wide, &mut s, &h, &mut x, &mut o))
+                (twin::close(&mut session, &history, &mut scratch, &mut out), model::close(Wide, Delay::New, &mut s, &h, &mut x, &mut o))
             } else {
-                (twin::feed(&mut session, &block, &mut history, &mut scratch, &mut out), model::feed(Wide, &mut s, &block, &mut h, &mut x, &mut o))
+                (twin::feed(&mut session, &block, &mut history, &mut scratch, &mut out), model::feed(Wide, Delay::New, &mut s, &block, &mut h, &mut x, &mut o))
             };
             assert_eq!(got, wanted);
             same("session", &session[..], &s[..]);

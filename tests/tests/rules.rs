@@ -120,9 +120,15 @@ fn refused_with_8() {
 
 #[test]
 fn refused_with_9() {
-    let sentence = "The rule waits for more than 4095 later states.";
+    let sentence = "The rule or a part of it waits for more than 4095 later states.";
     refused("7: F[0,4095] F[0,1] s0\n", &["text 9 line 1", sentence]);
     refused("7: F[0,4095] s0\n8: s0 U[0,1] G[4095,4095] s1\n", &["text 9 line 2", sentence]);
+    for (interval, number) in [("[0,1]", OK), ("[0,2]", LONG), ("[9,9]", OK), ("[8,9]", LONG)] {
+        for sign in ["U", "R"] {
+            assert_eq!(compare(format!("7: (F[0,4095] s0) {sign}{interval} s1\n")), number);
+        }
+    }
+    assert_eq!(compare("7: (F[0,4095] F[0,1] s0) U[0,0] s1\n"), LONG);
 }
 
 #[test]

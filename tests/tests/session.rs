@@ -1,5 +1,5 @@
 //! Sessions: every call against the model, and the joined verdicts against the naive evaluator.
-use juntreak_tests::compared::{bits, close, feed};
+use juntreak_tests::compared::{bits, close, feed, lengths};
 use juntreak_tests::header::limits::{
     CLOSE_WORDS, FEED_WORDS, HISTORY_WORDS, MAX_BLOCK, MAX_DELAY, MAX_NARROW_SEEN, MAX_NODES, MAX_RULES, MAX_SEEN, SCRATCH_WORDS, SESSION_BYTES, TABLE_BYTES,
 };
@@ -7,29 +7,16 @@ use juntreak_tests::header::places::{rule_at, RULE_NUMBER_AT, SEEN_AT};
 use juntreak_tests::header::refusals::{ABSENT, BUFFER, OK, SEEN, STATES, UNSOUND};
 use juntreak_tests::header::NUMBERS;
 use juntreak_tests::library::{self, open, read, simplify, SessionBytes};
-use juntreak_tests::model::{self, Node, Rule, Session, Table, Width::Wide};
-use juntreak_tests::random::{book, damage, redundant, short_words, table, trace, words, Random};
+use juntreak_tests::model::{self, Delay::New, Node, Rule, Session, Table, Width::Wide};
+use juntreak_tests::random::{any_count, block_length, book, count_beside, damage, redundant, short_words, table, trace, words, Random};
 use juntreak_tests::same;
 
-/// The length of a block.
-fn block_length(r: &mut Random, long: bool) -> usize {
+/// The length of a block, a long one where that is asked for.
+fn any_length(r: &mut Random, long: bool) -> usize {
     if long && r.chance(2) {
-        return MAX_BLOCK - r.pick(&[0, 0, 1, 60]);
-    }
-    let top = r.pick(&[1, 2, 10, 70, 130, 130, MAX_BLOCK as u64 + 1]);
-    r.below(top) as usize
-}
-
-/// A count of states: a small one, one beside the limits of both widths or beside a carry from byte to byte, or any.
-fn any_count(r: &mut Random) -> u64 {
-    let near = r.pick(&[0, 1, 3, 100, 1100]);
-    match r.below(6) {
-        0 => r.pick(&[0, 1, 3, 100, 4095, 5000]),
-        1 => MAX_NARROW_SEEN as u64 - near,
-        2 => MAX_NARROW_SEEN as u64 + near,
-        3 => MAX_SEEN as u64 - near,
-        4 => (1 << r.pick(&[8, 16, 24, 40, 48, 56, 63])) - r.pick(&[0, 1, 3, 100]),
-        _ => r.next() >> r.below(64),
+        MAX_BLOCK - r.pick(&[0, 0, 1, 60])
+    } else {
+        block_length(r)
     }
 }
 
@@ -83,7 +70,7 @@ fn random_lists_of_calls() {
         let rule = r.below(t.rules.len() as u64) as usize;
         let (mut session, mut wanted) = ([round as u8; SESSION_BYTES], [round as u8; SESSION_BYTES]);
         assert_eq!(open(&simple, rule as u32, &mut session), OK);
-        assert_eq!(model::open(&simple, rule as u32, &mut wanted), OK);
+        assert_eq!(model::open(New, &simple, rule as u32, &mut wanted), OK);
         assert_eq!(session, wanted);
         let d = model::sound(&simple).unwrap().rule_delay(rule) as usize;
 
@@ -126,7 +113,7 @@ fn random_lists_of_calls() {
                     seen[number as usize] += 1;
                     continue;
                 }
-                let k = block_length(&mut r, long);
+                let k = any_length(&mut r, long);
                 let block = trace(&mut r, k);
                 let (x, o) = (SCRATCH_WORDS + r.below(3) as usize, FEED_WORDS + r.below(3) as usize);
                 let (mut x, mut o) = (words(&mut r, x), words(&mut r, o));
@@ -177,7 +164,7 @@ fn openings() {
         for rule in [0, 1, 7, 8, 256, u32::MAX] {
             let (mut session, mut wanted) = ([round as u8; SESSION_BYTES], [round as u8; SESSION_BYTES]);
             let number = open(&bytes, rule, &mut session);
-            assert_eq!(number, model::open(&bytes, rule, &mut wanted));
+            assert_eq!(number, model::open(New, &bytes, rule, &mut wanted));
             assert_eq!(session, wanted);
             seen[number as usize] += 1;
         }
@@ -204,7 +191,7 @@ fn refused_open_leaves_a_running_session() {
             let mut bytes = t.bytes();
             let rule = if r.chance(2) { t.rules.len() as u32 } else { 0 };
             damage(&mut r, &mut bytes);
-            if model::open(&bytes, rule, &mut session.clone()) != OK {
+            if model::open(New, &bytes, rule, &mut session.clone()) != OK {
                 let before = session;
                 assert_ne!(open(&bytes, rule, &mut session), OK);
                 assert_eq!(session, before);
@@ -235,7 +222,7 @@ fn bytes_that_are_no_session() {
             2 => s[rule_at(r.below(MAX_RULES as u64) as usize) + 3] = r.next() as u8,
             _ => damage(&mut r, &mut s),
         }
-        let is_session = model::session(Wide, &s).is_some();
+        let is_session = model::session(Wide, New, &s).is_some();
         *(if is_session { &mut sessions } else { &mut others }) += 1;
         let short = r.chance(3);
         let (h, x, o) = if short { (HISTORY_WORDS - 1, SCRATCH_WORDS - 1, FEED_WORDS - 1) } else { (HISTORY_WORDS, SCRATCH_WORDS, CLOSE_WORDS) };
@@ -259,18 +246,6 @@ fn worked() -> Table {
     let p = Node { kind: 1, arg: 0, lo: 0, hi: 0, left: 0, right: 0 };
     let f = Node { kind: 7, arg: 0, lo: 1, hi: 3, left: 0, right: 0 };
     Table { nodes: vec![p, f], rules: vec![Rule { name: 7, watched: 1 }] }
-}
-
-/// Lengths of history, scratch and out, of which a call needs `out` words: just enough, each one short, none, and longer ones.
-fn lengths(out: usize) -> [(usize, usize, usize); 6] {
-    [
-        (HISTORY_WORDS, SCRATCH_WORDS, out),
-        (HISTORY_WORDS - 1, SCRATCH_WORDS, out),
-        (HISTORY_WORDS, SCRATCH_WORDS - 1, out),
-        (HISTORY_WORDS, SCRATCH_WORDS, out - 1),
-        (0, 0, 0),
-        (5000, 6000, 70),
-    ]
 }
 
 /// The order of a feed's and a close's refusals, and the last states that a session can see.
@@ -362,11 +337,8 @@ fn counts_and_delays() {
         let longest = r.pick(&[MAX_DELAY, 1100, 300, 9, 0]);
         let t = table(&mut r, count, longest);
         let rule = r.below(t.rules.len() as u64) as u32;
-        // Also counts whose low half is beside the delay.
-        let high = 1 << r.pick(&[32, 33, 40, 48, 56, 63]);
-        let low = (t.rule_delay(rule as usize) as u64).saturating_sub(r.below(3)) + r.below(3);
-        let seen = if r.chance(2) { high + low } else { any_count(&mut r) };
-        let k = block_length(&mut r, false);
+        let seen = count_beside(&mut r, t.rule_delay(rule as usize));
+        let k = block_length(&mut r);
         at_count(&mut r, &t, rule, seen, k);
     }
 }

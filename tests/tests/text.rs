@@ -96,7 +96,15 @@ fn every_byte_damaged() {
     }
     damaged(b"25:s3\n26:s31&s30\n255:true\n2:false\n", &mut seen);
     damaged(b"1:F[0,1]G[0,4094]s0\n2:s0 U[0,95](s1 R[0,4000]s2)\n", &mut seen);
+    damaged(b"1:(F[0,96]s0)U[0,4000]G[0,95]s1\n2:(F[0,4095]s0)R[40,40]s2\n", &mut seen);
     each_seen(&seen, &[OK, ARGUMENT, INTERVAL, FULL, LONG, NAME, SYNTAX, DEEP]);
+}
+
+/// U or R with a delay about as long as it may be.
+fn until_at_the_limit(r: &mut Random) -> Vec<u8> {
+    let (left, right, hi) = (r.below(8), r.below(8), MAX_DELAY as u64 - r.below(8));
+    let lo = if r.chance(2) { hi } else { r.below(hi) };
+    format!("1:(F[0,{left}]s0){}[{lo},{hi}]G[0,{right}]s1\n", r.pick(&["U", "R"])).into_bytes()
 }
 
 /// The reader that the benchmarks compare with.
@@ -110,7 +118,11 @@ fn the_plain_reader_agrees() {
             typed.last_mut().unwrap().name = 1;
             typed[0].name = 1;
         }
-        let mut text = if r.chance(8) { format!("1:{}\n", chained(&mut r, MAX_DEPTH + 1)).into_bytes() } else { text(&mut r, &typed) };
+        let mut text = match r.below(10) {
+            0 => format!("1:{}\n", chained(&mut r, MAX_DEPTH + 1)).into_bytes(),
+            1 => until_at_the_limit(&mut r),
+            _ => text(&mut r, &typed),
+        };
         for _ in 0..r.below(3) {
             let (at, byte) = (r.below(text.len() as u64) as usize, r.pick(LINE_BYTES));
             text.splice(at..at + r.below(2) as usize, [byte]);
@@ -355,7 +367,8 @@ fn every_number() {
     }
     answers("1:F[0,4095]F[0,1]s0\n", (LONG, 1));
     answers("1:s0\n2:(s0U[0,4095]s1)&(s0R[0,1](s0U[0,4095]s1))\n", (LONG, 2));
-    answers("1:(F[0,95]s0)U[0,4001]s1\n", (LONG, 1));
+    answers("1:(F[0,95]s0)U[0,4002]s1\n", (LONG, 1));
+    answers("1:(F[0,4095]F[0,1]s0)U[0,0]s1\n", (LONG, 1));
     answers("1:s1R[0,4001]F[0,95]s0\n", (LONG, 1));
     answers("7:s0\n8:s0\n7:s0\n", (NAME, 3));
     answers("1:s0\n2:s1\n3:s2\n4:s3\n5:s4\n6:s5\n7:s6\n8:s7\n9:s8\n", (FULL, 9));

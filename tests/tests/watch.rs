@@ -224,6 +224,20 @@ fn lengths_and_delays() {
     }
 }
 
+/// U and R: the last block's verdicts before a bad line wait for as many states as the delay says.
+#[test]
+fn delays_of_until() {
+    let mut r = Random(53);
+    let nodes = |kind, lo, hi| vec![Node { arg: 2, ..SIGNAL }, finally(3, 0), Node { arg: 1, ..SIGNAL }, Node { kind, arg: 0, lo, hi, left: 1, right: 2 }];
+    for kind in [9, 10] {
+        for (lo, hi, delay) in [(0, 2, 4), (1, 2, 4), (2, 2, 2), (0, 1000, 1002), (1000, 1000, 1000)] {
+            let input = with_line(&random_text(&mut r, MAX_BLOCK), MAX_BLOCK, b"x");
+            let want = compare(&book_of(nodes(kind, lo, hi), &[(7, 3)]), &input);
+            assert_eq!(want.split_inclusive(|b| *b == 10).count(), MAX_BLOCK - delay + 1);
+        }
+    }
+}
+
 /// Each kind of bad line at each place, with lines behind it, as the last line, and as the last without its byte 10.
 #[test]
 fn bad_lines() {

@@ -1,6 +1,6 @@
 //! Narrow sessions: what is widened and what is refused, and lists of calls that begin under the narrow count, which the model plays, and go on under the
-//! library's.
-use juntreak_tests::compared::{self, bits, widen};
+//! library's. The delay is the library's all along; sessions under the old one are in `close_old`.
+use juntreak_tests::compared::{bits, close, close_under, feed, feed_under, forged, seen_in, widen};
 use juntreak_tests::header::limits::{
     CLOSE_WORDS, FEED_WORDS, HISTORY_WORDS, MAX_BLOCK, MAX_DELAY, MAX_NARROW_SEEN, MAX_NODES, MAX_RULES, NODE_COUNT_AT, RULE_COUNT_AT, SCRATCH_WORDS,
     SESSION_BYTES, TABLE_BYTES,
@@ -9,21 +9,16 @@ use juntreak_tests::header::places::{node_at, rule_at, RULE_NUMBER_AT, SEEN_AT};
 use juntreak_tests::header::refusals::{BUFFER, OK, SEEN, STATES, UNSOUND};
 use juntreak_tests::header::NUMBERS;
 use juntreak_tests::library::{open, simplify, SessionBytes};
-use juntreak_tests::model::{self, Node, Rule, Session, Table, Width, Width::Narrow, Width::Wide};
-use juntreak_tests::random::{any_table, bytes, damage, damaged_table, short_words, trace, words, Random};
+use juntreak_tests::model::{self, Delay::New, Node, Rule, Session, Table, Width, Width::Narrow, Width::Wide};
+use juntreak_tests::random::{absent_rule, any_table, block_length, damage, damaged_table, session_bytes, short_words, trace, words, Random};
 use juntreak_tests::same;
 use std::collections::BTreeMap;
 
 const LAST: u64 = MAX_NARROW_SEEN as u64;
 
-/// A session's bytes of dirt.
-fn dirt(r: &mut Random) -> SessionBytes {
-    bytes(r, SESSION_BYTES).try_into().unwrap()
-}
-
 /// The number of a widening over dirt; what is accepted has the bytes that were given.
 fn widened(r: &mut Random, narrow: &SessionBytes) -> u32 {
-    let before = dirt(r);
+    let before = session_bytes(r);
     let mut session = before;
     let number = widen(r, narrow, &mut session);
     same("session", &session, if number == OK { narrow } else { &before });
@@ -49,11 +44,6 @@ fn wide_count(r: &mut Random) -> u64 {
     }
 }
 
-/// The bytes of a session on a table, sound or not, with any rule number and any count.
-fn forged(table: [u8; TABLE_BYTES], rule: u32, seen: u64) -> SessionBytes {
-    [&table[..], &rule.to_le_bytes(), &seen.to_le_bytes()].concat().try_into().unwrap()
-}
-
 #[test]
 fn random_and_extreme_sessions() {
     let mut r = Random(91);
@@ -64,7 +54,7 @@ fn random_and_extreme_sessions() {
         let t = any_table(&mut r, count, longest);
         let rules = t.rules.len() as u32;
         let table = if r.chance(3) { damaged_table(&mut r, &t) } else { t.bytes() };
-        let rule = if r.chance(3) { r.pick(&[rules, rules + 1, 8, 255, 256, 1 << 16, 1 << 24, u32::MAX]) } else { r.below(rules as u64) as u32 };
+        let rule = if r.chance(3) { absent_rule(&mut r, t.rules.len()) } else { r.below(rules as u64) as u32 };
         let seen = if r.chance(3) { wide_count(&mut r) } else { narrow_count(&mut r) };
         let number = widened(&mut r, &forged(table, rule, seen));
         match (model::sound(&table), seen > LAST) {
@@ -93,7 +83,7 @@ fn damaged_and_random_bytes() {
         let rule = r.below(t.rules.len() as u64) as u32;
         let mut narrow = forged(t.bytes(), rule, narrow_count(&mut r));
         if r.chance(10) {
-            narrow = dirt(&mut r);
+            narrow = session_bytes(&mut r);
         } else {
             damage(&mut r, &mut narrow);
         }
@@ -204,31 +194,10 @@ fn counts() {
         assert_eq!(widened(&mut r, &narrow), UNSOUND);
         let (mut session, mut history) = (narrow, trace(&mut r, HISTORY_WORDS));
         let (mut x, mut o) = (words(&mut r, SCRATCH_WORDS), words(&mut r, CLOSE_WORDS));
-        assert_eq!(compared::feed(&mut session, &[], &mut history, &mut x, &mut o), (OK, 0));
-        assert_eq!(compared::close(&mut session, &history, &mut x, &mut o), (OK, 3));
+        assert_eq!(feed(&mut session, &[], &mut history, &mut x, &mut o), (OK, 0));
+        assert_eq!(close(&mut session, &history, &mut x, &mut o), (OK, 3));
         // Once it is closed, its count is narrow.
         assert_eq!(widened(&mut r, &session), OK);
-    }
-}
-
-/// The count in a session's bytes.
-fn seen_in(session: &SessionBytes) -> u64 {
-    u64::from_le_bytes(session[SEEN_AT..].try_into().unwrap())
-}
-
-/// A feed under a count: the narrow one, which the model plays, or the library's.
-fn feed(width: Width, session: &mut SessionBytes, block: &[u32], history: &mut [u32], scratch: &mut [u64], out: &mut [u64]) -> (u32, u32) {
-    match width {
-        Narrow => model::feed(Narrow, session, block, history, scratch, out),
-        Wide => compared::feed(session, block, history, scratch, out),
-    }
-}
-
-/// A close under a count.
-fn close(width: Width, session: &mut SessionBytes, history: &[u32], scratch: &mut [u64], out: &mut [u64]) -> (u32, u32) {
-    match width {
-        Narrow => model::close(Narrow, session, history, scratch, out),
-        Wide => compared::close(session, history, scratch, out),
     }
 }
 
@@ -265,7 +234,7 @@ impl List<'_> {
         let (mut x, mut o) = (words(r, x), words(r, o));
         let (mut wide_x, mut wide_o) = (x.clone(), o.clone());
         let (before, kept) = (self.session, self.history.clone());
-        let (number, count) = feed(self.width, &mut self.session, block, &mut self.history, &mut x, &mut o);
+        let (number, count) = feed_under(self.width, New, &mut self.session, block, &mut self.history, &mut x, &mut o);
         if self.width == Narrow && number == SEEN {
             assert!(seen_in(&before) + block.len() as u64 > LAST && self.session == before && self.history == kept);
             same("out", &o, &wide_o);
@@ -273,7 +242,7 @@ impl List<'_> {
             return;
         }
         assert_eq!(number, OK);
-        assert_eq!(compared::feed(&mut self.wide, block, &mut self.wide_history, &mut wide_x, &mut wide_o), (number, count));
+        assert_eq!(feed(&mut self.wide, block, &mut self.wide_history, &mut wide_x, &mut wide_o), (number, count));
         same("out", &o, &wide_o);
         assert!(self.width == Wide || seen_in(&self.session) <= LAST);
         self.fed.extend(block);
@@ -293,9 +262,9 @@ impl List<'_> {
     fn close(&mut self, r: &mut Random, tally: &mut Tally) {
         let (mut x, mut o) = (words(r, SCRATCH_WORDS + 1), words(r, CLOSE_WORDS + 1));
         let (mut wide_x, mut wide_o) = (x.clone(), o.clone());
-        let (number, count) = close(self.width, &mut self.session, &self.history, &mut x, &mut o);
+        let (number, count) = close_under(self.width, New, &mut self.session, &self.history, &mut x, &mut o);
         assert_eq!(number, OK);
-        assert_eq!(compared::close(&mut self.wide, &self.wide_history, &mut wide_x, &mut wide_o), (number, count));
+        assert_eq!(close(&mut self.wide, &self.wide_history, &mut wide_x, &mut wide_o), (number, count));
         same("out", &o, &wide_o);
         self.given.extend(bits(&o, count));
         assert!(self.given == self.table.rule_verdicts(self.rule, &self.fed), "{:?} rule {}", self.table, self.rule);
@@ -317,7 +286,7 @@ impl List<'_> {
 
     /// The widening: the session's bytes are copied to another place, whatever is there.
     fn widen(&mut self, r: &mut Random) {
-        let mut session = dirt(r);
+        let mut session = session_bytes(r);
         assert_eq!(widen(r, &self.session, &mut session), OK);
         self.session = session;
         self.width = Wide;
@@ -332,10 +301,10 @@ impl List<'_> {
         let wanted = match r.below(7) {
             0 | 1 => {
                 // A widening of anything that is not narrow, to the list's own session.
-                while model::session(Narrow, &other).is_some() {
+                while model::session(Narrow, New, &other).is_some() {
                     match r.below(4) {
                         0 => other[SEEN_AT..].copy_from_slice(&wide_count(r).to_le_bytes()),
-                        1 => other = dirt(r),
+                        1 => other = session_bytes(r),
                         _ => damage(r, &mut other),
                     }
                 }
@@ -345,7 +314,7 @@ impl List<'_> {
                 return;
             }
             2 => {
-                while model::session(self.width, &other).is_some() {
+                while model::session(self.width, New, &other).is_some() {
                     damage(r, &mut other);
                 }
                 UNSOUND
@@ -375,9 +344,9 @@ impl List<'_> {
         };
         let (lent, block) = (other, trace(r, k));
         let (mut x, mut o) = (words(r, x), words(r, o));
-        assert_eq!(feed(self.width, &mut other, &block, &mut self.history, &mut x, &mut o), (wanted, 0));
+        assert_eq!(feed_under(self.width, New, &mut other, &block, &mut self.history, &mut x, &mut o), (wanted, 0));
         if matches!(wanted, UNSOUND | BUFFER) {
-            assert_eq!(close(self.width, &mut other, &self.history, &mut x, &mut o), (wanted, 0));
+            assert_eq!(close_under(self.width, New, &mut other, &self.history, &mut x, &mut o), (wanted, 0));
         }
         assert!(other == lent && self.history == history);
         tally.add(format!("refused with {wanted}, {:?}", self.width), 1);
@@ -395,8 +364,8 @@ fn list(r: &mut Random, tally: &mut Tally) {
     let delay = model::sound(&simple).unwrap().rule_delay(rule) as usize;
     let extra = r.below(3) as usize;
     let history = short_words(r, HISTORY_WORDS + extra);
-    let (mut session, mut wide, mut fed) = (dirt(r), dirt(r), vec![]);
-    assert_eq!(model::open(&simple, rule as u32, &mut session), OK);
+    let (mut session, mut wide, mut fed) = (session_bytes(r), session_bytes(r), vec![]);
+    assert_eq!(model::open(New, &simple, rule as u32, &mut session), OK);
     assert_eq!(open(&simple, rule as u32, &mut wide), OK);
     if r.chance(3) {
         let near = r.pick(&[0, 1, 3, 64, 200, 2000]);
@@ -421,8 +390,7 @@ fn list(r: &mut Random, tally: &mut Tally) {
             0 | 1 => list.refused(r, tally),
             2 => list.close(r, tally),
             _ => {
-                let top = r.pick(&[1, 2, 10, 70, 130, 130, MAX_BLOCK as u64 + 1]);
-                let k = r.below(top) as usize;
+                let k = block_length(r);
                 let block = trace(r, k);
                 list.feed(r, &block, tally);
             }
@@ -463,21 +431,21 @@ fn a_block_beyond_the_narrow_count() {
             let (mut x, mut o) = (words(&mut r, SCRATCH_WORDS), words(&mut r, CLOSE_WORDS));
 
             let (mut refused, kept) = (narrow, history.clone());
-            assert_eq!(feed(Narrow, &mut refused, &block, &mut history, &mut x, &mut o), (SEEN, 0));
+            assert_eq!(feed_under(Narrow, New, &mut refused, &block, &mut history, &mut x, &mut o), (SEEN, 0));
             assert!(refused == narrow && history == kept);
             // What there is room for is accepted.
             let mut filled = narrow;
-            assert_eq!(feed(Narrow, &mut filled, &block[..room], &mut history.clone(), &mut x, &mut o), (OK, room as u32));
+            assert_eq!(feed_under(Narrow, New, &mut filled, &block[..room], &mut history.clone(), &mut x, &mut o), (OK, room as u32));
             assert_eq!(seen_in(&filled), LAST);
 
-            let mut session = dirt(&mut r);
+            let mut session = session_bytes(&mut r);
             assert_eq!(widen(&mut r, &narrow, &mut session), OK);
-            assert_eq!(feed(Wide, &mut session, &block, &mut history, &mut x, &mut o), (OK, k as u32));
+            assert_eq!(feed(&mut session, &block, &mut history, &mut x, &mut o), (OK, k as u32));
             let mut given = bits(&o, k as u32);
             assert_eq!(seen_in(&session), seen + k as u64);
             assert_eq!(session[..SEEN_AT], narrow[..SEEN_AT]);
             assert_eq!(widened(&mut r, &session), UNSOUND);
-            assert_eq!(close(Wide, &mut session, &history, &mut x, &mut o), (OK, delay as u32));
+            assert_eq!(close(&mut session, &history, &mut x, &mut o), (OK, delay as u32));
             given.extend(bits(&o, delay as u32));
             assert!(given == t.rule_verdicts(rule, &states), "{t:?} rule {rule}");
         }

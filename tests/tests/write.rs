@@ -410,7 +410,7 @@ fn refusals_and_their_order() {
     }
 }
 
-/// A table of every kind of node with delays up to the longest, and free places behind it.
+/// A table of every kind of node with delays up to the longest, which the new delay alone accepts, and free places behind it.
 fn of_every_kind() -> Table {
     let node = |kind, arg, lo, hi, left, right| Node { kind, arg, lo, hi, left, right };
     let nodes = vec![
@@ -422,7 +422,7 @@ fn of_every_kind() -> Table {
         node(6, 0, 0, 0, 4, 1),
         node(7, 0, 1, 300, 5, 0),
         node(8, 0, 2, 1000, 6, 0),
-        node(9, 0, 300, 2000, 7, 4),
+        node(9, 0, 300, 2001, 7, 4),
         node(10, 0, 600, 795, 3, 8),
     ];
     Table { nodes, rules: vec![Rule { name: 4, watched: 9 }, Rule { name: 3, watched: 0 }] }
@@ -472,8 +472,14 @@ fn soundness_at_its_limits() {
         (|t| t.nodes[6].hi = 301, UNSOUND),
         (|t| t.nodes[9].hi = 794, OK),
         (|t| t.nodes[9].hi = 796, UNSOUND),
-        (|t| (t.nodes[9].left, t.nodes[9].right) = (8, 3), OK),
-        (|t| (t.nodes[9].left, t.nodes[9].right, t.nodes[9].hi) = (8, 3, 796), UNSOUND),
+        (|t| t.nodes[8].hi = 2000, OK),
+        (|t| t.nodes[8].hi = 2002, UNSOUND),
+        (|t| (t.nodes[9].left, t.nodes[9].right, t.nodes[9].hi) = (8, 3, 796), OK),
+        (|t| (t.nodes[9].left, t.nodes[9].right, t.nodes[9].hi) = (8, 3, 797), UNSOUND),
+        (|t| (t.nodes[9].left, t.nodes[9].lo, t.nodes[9].hi) = (8, 795, 795), OK),
+        (|t| (t.nodes[9].left, t.nodes[9].lo, t.nodes[9].hi) = (8, 796, 796), UNSOUND),
+        (|t| (t.nodes[9].left, t.nodes[9].right, t.nodes[9].lo, t.nodes[9].hi) = (8, 3, 4095, 4095), OK),
+        (|t| (t.nodes[9].left, t.nodes[9].right, t.nodes[9].lo, t.nodes[9].hi) = (8, 3, 4094, 4095), UNSOUND),
         (|t| (t.nodes[9].right, t.nodes[9].hi) = (3, 4095), OK),
         (|t| (t.nodes[9].right, t.nodes[9].hi) = (3, 4096), UNSOUND),
     ];
