@@ -107,7 +107,7 @@ module _ (width : Width) (b : List ℕ) (l : length b ≡ 558) where
     close-small : closingBy (waitOf old) s h x o .answer .number ≤ 25
     close-small = rw (close-number (waitOf old) s h x o) (first-within 25 (closeRows (unfitBy (waitOf old) s) (length h) (length x) (length o)) refl)
 
--- the session that an accepted call hands back is that of the bytes afterwards
+-- the session that bytes hold, with its width
 abbrev anyIn : Width → List ℕ → calls.AnySession
 anyIn width b = record { base = heldIn width b; width = width }
 
@@ -119,6 +119,10 @@ narrow-unseen b e = narrow-wide b (omega (arith, e))
 number-zero : (s : Source) → readAnswer s ≡ 0 → readNumber s ≡ 0
 number-zero (book b) e = omega (arith, e)
 number-zero (text x) e = omega (arith, e)
+
+-- bytes that a refused call is given stay
+bytes-stay : (number : ℕ) (new old : List ℕ) → (number ≡ 0 → ⊥) → leaves number new old ≡ old
+bytes-stay number new old n = rw (ne-eqb number 0 n)
 
 -- by either delay
 module _ (old : Bool) where
@@ -188,9 +192,6 @@ module _ (old : Bool) where
   refusals c k = third-demand-by old .calls-refused (asCall c) (meets c k)
 
   -- a refused call hands back its buffers, and the bytes stay
-  bytes-stay : (number : ℕ) (new old : List ℕ) → (number ≡ 0 → ⊥) → leaves number new old ≡ old
-  bytes-stay number new old n = rw (ne-eqb number 0 n)
-
   untouched-bytes : (c : Call) → ContractBy wait c → (answeredNumber c ≡ 0 → ⊥) → lent c .session′ ≡ bufferOf c
   untouched-bytes (feed width block l) k n = k .session ∙ bytes-stay _ _ _ (λ z. n (ap (λ (e : Effect). e .answer .number) (meets (feed width block l) k .is) ∙ z))
   untouched-bytes (close width l) k n = k .session ∙ bytes-stay _ _ _ (λ z. n (ap (λ (e : Effect). e .answer .number) (meets (close width l) k .is) ∙ z))
@@ -207,6 +208,7 @@ module _ (old : Bool) where
       }
 
   -- ---- lists of calls
+  -- the session that an accepted call hands back is that of the bytes afterwards
   back-is : (c : Call) → ContractBy wait c → answeredNumber c ≡ 0 → calls.sessionAfter (asCall c) ≡ anyIn (calls.widthAfter (actOf c) (widthOf c)) (lent c .session′)
   back-is (feed width block l) k z = refl
   back-is (close width l) k z = refl

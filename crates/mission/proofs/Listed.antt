@@ -48,9 +48,9 @@ module _ (old : Bool) where
   -- r is the rule b of a table, simplified
   module _ (r b : Watch) (made : Made r b) (width : Width) (start : List ℕ) where
     abbrev fresh : Session
-    fresh = opened old r width start .base
+    fresh = opened r width .base
 
-    pub come-session : (cs : List Call) (s : AnySession) (h : List ℕ) (ended : Bool) → CallsBy (waitOf old) (opened old r width start) start cs s h ended
+    pub come-session : (cs : List Call) (s : AnySession) (h : List ℕ) (ended : Bool) → CallsBy (waitOf old) (opened r width) start cs s h ended
         → s .base ≡ withSeen fresh (seenBy ended cs)
     come-session cs s h ended l =
         let e = session-unchanged (tables old) width r b start (map (seenCall old) cs) (seenSession s) h ended made (seen old r width start l) (no-change old cs) in
@@ -64,7 +64,7 @@ module _ (old : Bool) where
         go false e = back e ∙ ap (withSeen fresh) (sub-zero _ ∙ ap length (same-states old cs))
         go true e = back e
 
-    pub come-claim : (cs : List Call) (s : AnySession) (h : List ℕ) (ended : Bool) → CallsBy (waitOf old) (opened old r width start) start cs s h ended
+    pub come-claim : (cs : List Call) (s : AnySession) (h : List ℕ) (ended : Bool) → CallsBy (waitOf old) (opened r width) start cs s h ended
         → Claim (holds (formula b)) (waitOf old (formula r)) start ended h (statesFed cs) (verdictsGiven cs)
     come-claim cs s h ended l =
         rw (same-states old cs, same-verdicts old cs) at (without-changes (tables old) width r b start (map (seenCall old) cs) (seenSession s) h ended made (seen old r width start l) (no-change old cs))

@@ -32,6 +32,10 @@ use Rattle.mission.proofs.World.{Watch, Buffers, short, tables, seenSes
 abbrev pub given : Effect → List Bool
 given e = ticks (bitAt (e .out)) (e .answer .count)
 
+-- the session that open gives for a rule
+abbrev pub opened : Watch → Width → AnySession
+opened r width = record { base = record { table = r .table; rule = r .rule; seen = 0 }; width = width }
+
 -- by either delay
 module _ (old : Bool) where
   module _ (s : AnySession) (h x o : List ℕ) where
@@ -127,9 +131,6 @@ module _ (old : Bool) where
   same-block widen = refl
 
   module _ (r : Watch) (width : Width) (start : List ℕ) where
-    abbrev pub opened : AnySession
-    opened = record { base = record { table = r .table; rule = r .rule; seen = 0 }; width = width }
-
     abbrev pub Seen : List Call → AnySession → List ℕ → Bool → Type 0
     Seen cs s h ended = acts.Calls (tables old) (opening (tables old) width r) start (map (seenCall old) cs) (seenSession s) h ended
 
@@ -142,7 +143,7 @@ module _ (old : Bool) where
         → Seen (cs ++ (c ∷ [])) s h ended
     seen-refused cs s h ended c l m n = rw map-append (acts.refused (seenCall old c) l (meets c m (λ e. absurd (n e))) n)
 
-    pub seen : {cs : List Call} {s : AnySession} {h : List ℕ} {ended : Bool} → CallsBy (waitOf old) opened start cs s h ended → Seen cs s h ended
+    pub seen : {cs : List Call} {s : AnySession} {h : List ℕ} {ended : Bool} → CallsBy (waitOf old) (opened r width) start cs s h ended → Seen cs s h ended
     seen begin = acts.begin
     seen (accepted {cs = cs} c l m z) = seen-accepted cs c (seen l) m z
     seen (refused {cs = cs} {s = s} {h = h} {ended = ended} c l m n) = seen-refused cs s h ended c (seen l) m n

@@ -70,7 +70,7 @@ module _ (old : Bool) where
 
     -- a list on the session that open gave
     from-fresh : {width : Width} {cs : List Call} {s : AnySession} {h : List ℕ} {ended : Bool} → ListBy wait m width cs s h ended
-        → CallsBy wait (opened old simple width (m .history)) (m .history) cs s h ended
+        → CallsBy wait (opened simple width) (m .history) cs s h ended
     from-fresh {width} l = rw (fresh-as width) at l
 
     -- its session has seen the states fed, and none after a close

@@ -26,21 +26,43 @@ use Rattle.mission.specs.Mission.{StartBy, ListBy, AsIfWide, widthNumber
 use Rattle.mission.proofs.Seen.{given}
 use Rattle.mission.proofs.Listed.{handed-back}
 
+-- ---- widenings
+widenings-snoc : (cs : List Call) (c : Call) → widenings (cs ++ (c ∷ [])) ≡ widenings cs + wideningsOf c
+widenings-snoc [] c = omega arith
+widenings-snoc (d ∷ cs) c = omega (arith, widenings-snoc cs c)
+
+one-more : (a : Act) (width : Width) → Takes a width → widthNumber width + wideningsBy a ≡ widthNumber (widthAfter a width)
+one-more (feed block) width t = add-zero (widthNumber width)
+one-more close width t = add-zero (widthNumber width)
+one-more widen width t = rw t
+
+stays-wide : (a : Act) → widthAfter a wide ≡ wide
+stays-wide (feed block) = refl
+stays-wide close = refl
+stays-wide widen = refl
+
+-- ---- what is made of a call: one that is accepted, or nothing of a widening and of a refused one, which feed no state and give no verdict
+abbrev One : Call → Type 0
+One c = (wideCallsOf c ≡ wideCall c ∷ []) × Takes (c .act) wide
+
+abbrev None : Call → Type 0
+None c = (wideCallsOf c ≡ []) × (statesOf c ≡ []) × (verdictsOf c ≡ [])
+
+-- ---- joined lists
+-- what f makes of the calls of a list made wide, joined, is what it makes of those of the list: one call more
+module _ {B : Type 0} (f : Call → List B) (cs : List Call) (c : Call) (e : concatMap f (wideCalls cs) ≡ concatMap f cs) where
+  joined-one : f (wideCall c) ≡ f c → wideCallsOf c ≡ wideCall c ∷ [] → concatMap f (wideCalls (cs ++ (c ∷ []))) ≡ concatMap f (cs ++ (c ∷ []))
+  joined-one s o = rw (concatMap-snoc wideCallsOf cs c, o, concatMap-snoc f (wideCalls cs) (wideCall c), concatMap-snoc f cs c, e, s)
+
+  joined-none : f c ≡ [] → wideCallsOf c ≡ [] → concatMap f (wideCalls (cs ++ (c ∷ []))) ≡ concatMap f (cs ++ (c ∷ []))
+  joined-none s o = rw (concatMap-snoc wideCallsOf cs c, o, append-nil (wideCalls cs), concatMap-snoc f cs c, s, append-nil (concatMap f cs)) e
+
 -- by either delay
 module _ (old : Bool) where
   abbrev wait : Formula → ℕ
   wait = waitOf old
 
   -- ---- at most one widening
-  widenings-snoc : (cs : List Call) (c : Call) → widenings (cs ++ (c ∷ [])) ≡ widenings cs + wideningsOf c
-  widenings-snoc [] c = omega arith
-  widenings-snoc (d ∷ cs) c = omega (arith, widenings-snoc cs c)
-
-  one-more : (a : Act) (width : Width) → Takes a width → widthNumber width + wideningsBy a ≡ widthNumber (widthAfter a width)
-  one-more (feed block) width t = add-zero (widthNumber width)
-  one-more close width t = add-zero (widthNumber width)
-  one-more widen width t = rw t
-
   pub widened-once : {first : AnySession} {start : List ℕ} {cs : List Call} {s : AnySession} {h : List ℕ} {ended : Bool} → CallsBy wait first start cs s h ended
       → widthNumber (first .width) + widenings cs ≡ widthNumber (s .width)
   widened-once {first} begin = add-zero (widthNumber (first .width))
@@ -91,18 +113,6 @@ module _ (old : Bool) where
     is = m .is ∙ same-wide (c .act) (c .session) (c .history) (c .scratch) (c .out) (sym (ap (λ (e : Effect). e .answer .number) (m .is)) ∙ z);
   }
 
-  stays-wide : (a : Act) → widthAfter a wide ≡ wide
-  stays-wide (feed block) = refl
-  stays-wide close = refl
-  stays-wide widen = refl
-
-  -- ---- what is made of a call: one that is accepted, or nothing of a widening and of a refused one, which feed no state and give no verdict
-  abbrev One : Call → Type 0
-  One c = (wideCallsOf c ≡ wideCall c ∷ []) × Takes (c .act) wide
-
-  abbrev None : Call → Type 0
-  None c = (wideCallsOf c ≡ []) × (statesOf c ≡ []) × (verdictsOf c ≡ [])
-
   one-or-widen : (c : Call) → MeetsBy wait c → numberOf c ≡ 0 → One c ⊎ (None c × (c .act ≡ widen))
   one-or-widen c g z = go (c .act) refl
     where
@@ -118,14 +128,6 @@ module _ (old : Bool) where
   none-refused c g n = let y = ne-eqb (numberOf c) 0 n in (rw y, rw y, ap given (handed-back old c g n))
 
   -- ---- as if wide from the start
-  -- what f makes of the calls of a list made wide, joined, is what it makes of those of the list: one call more
-  module _ {B : Type 0} (f : Call → List B) (cs : List Call) (c : Call) (e : concatMap f (wideCalls cs) ≡ concatMap f cs) where
-    joined-one : f (wideCall c) ≡ f c → wideCallsOf c ≡ wideCall c ∷ [] → concatMap f (wideCalls (cs ++ (c ∷ []))) ≡ concatMap f (cs ++ (c ∷ []))
-    joined-one s o = rw (concatMap-snoc wideCallsOf cs c, o, concatMap-snoc f (wideCalls cs) (wideCall c), concatMap-snoc f cs c, e, s)
-
-    joined-none : f c ≡ [] → wideCallsOf c ≡ [] → concatMap f (wideCalls (cs ++ (c ∷ []))) ≡ concatMap f (cs ++ (c ∷ []))
-    joined-none s o = rw (concatMap-snoc wideCallsOf cs c, o, append-nil (wideCalls cs), concatMap-snoc f cs c, s, append-nil (concatMap f cs)) e
-
   module _ (m : StartBy wait) where
     wide-one : (cs : List Call) (c : Call) → AsIfWide m cs (c .session) (c .history) false → MeetsBy wait c → numberOf c ≡ 0 → One c
         → AsIfWide m (cs ++ (c ∷ [])) (sessionAfter c) (c .effect .history) (ends (c .act))

@@ -329,7 +329,7 @@ module _ (base : ℕ) (t : Table) (rs : List Rule) where
 
     two-right : (w : Fit ns g c₂) → After (w .nodes) h d → After ns f (d ++ (made i (length c₂ - 1) ∷ []))
     two-right w (unfit z r) =
-        unfit (λ k. z (record { room = let q = k .room in let l = w .long in omega arith; numbers = from (k .numbers) .2; short = let q = k .short in let k = is-longest in omega arith }))
+        unfit (λ k. z (record { room = let q = k .room in let l = w .long in omega arith; numbers = from (k .numbers) .2; short = let q = k .short in let e = is-longest in omega arith }))
         (stays (stuck-one base t _ (stuck-none base t)) r)
     two-right w (fit s) =
         let us = w .nodes in
@@ -350,7 +350,7 @@ module _ (base : ℕ) (t : Table) (rs : List Rule) where
 
     two : After ns g c₂ → ((w : Fit ns g c₂) → After (w .nodes) h d) → After ns f (d ++ (made i (length c₂ - 1) ∷ []))
     two (unfit z r) k =
-        unfit (λ w. z (record { room = let q = w .room in omega arith; numbers = from (w .numbers) .1; short = let q = w .short in let k = is-longest in omega arith }))
+        unfit (λ w. z (record { room = let q = w .room in omega arith; numbers = from (w .numbers) .1; short = let q = w .short in let e = is-longest in omega arith }))
         (stays (stuck-one base t _ (stuck base t h c₂)) r)
     two (fit w) k = two-right w (k w)
 
