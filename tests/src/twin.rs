@@ -155,22 +155,58 @@ fn flip(s: &mut [u64], n: usize) {
     }
 }
 
+/// How a signal's column is made of a trace.
+trait Columns {
+    /// Its bits of 64 states.
+    fn word(states: &[u32; 64], signal: u8) -> u64;
+}
+
+/// As the library makes them: four states that follow each other go into four numbers.
+struct Lanes;
+/// As it made them before A6: one state after the other into one number.
+struct Digits;
+
+/// Every fourth bit of a signal from state l on, each at its place.
+#[inline(always)]
+fn lane(states: &[u32; 32], signal: u8, l: usize) -> u64 {
+    (0..8).fold(0u32, |x, k| x | (states[4 * k + l] >> signal & 1) << (4 * k)) as u64
+}
+
+#[inline(always)]
+fn half(states: &[u32], signal: u8) -> u64 {
+    let states = states.try_into().unwrap();
+    lane(states, signal, 0) | lane(states, signal, 1) << 1 | lane(states, signal, 2) << 2 | lane(states, signal, 3) << 3
+}
+
 /// A signal's bits of up to 64 states.
 #[inline(always)]
-fn gathered<'a>(states: impl Iterator<Item = &'a u32>, signal: u8) -> u64 {
+fn digits<'a>(states: impl Iterator<Item = &'a u32>, signal: u8) -> u64 {
     states.enumerate().fold(0, |x, (j, state)| x | ((state >> signal & 1) as u64) << j)
 }
 
-fn column(s: &mut [u64], trace: Trace, signal: u8) {
-    let (older, newer) = trace;
+impl Columns for Lanes {
+    #[inline(always)]
+    fn word(states: &[u32; 64], signal: u8) -> u64 {
+        half(&states[..32], signal) | half(&states[32..], signal) << 32
+    }
+}
+
+impl Columns for Digits {
+    #[inline(always)]
+    fn word(states: &[u32; 64], signal: u8) -> u64 {
+        digits(states.iter(), signal)
+    }
+}
+
+fn column<C: Columns>(s: &mut [u64], (older, newer): Trace, signal: u8) {
+    let whole = |states: &[u32]| C::word(states.try_into().unwrap(), signal);
     for (w, x) in s.iter_mut().enumerate() {
         let from = 64 * w;
-        *x = if from + 64 <= older.len() {
-            gathered(older[from..from + 64].iter(), signal)
-        } else if from >= older.len() && from - older.len() + 64 <= newer.len() {
-            gathered(newer[from - older.len()..from - older.len() + 64].iter(), signal)
-        } else {
-            gathered(older.iter().chain(newer).skip(from).take(64), signal)
+        *x = match from.checked_sub(older.len()) {
+            None if from + 64 <= older.len() => whole(&older[from..from + 64]),
+            None => digits(older[from..].iter().chain(newer).take(64), signal),
+            Some(past) if past + 64 <= newer.len() => whole(&newer[past..past + 64]),
+            Some(past) => digits(newer.iter().skip(past), signal),
         };
     }
 }
@@ -193,11 +229,11 @@ fn needed(nodes: &[Node; MAX_NODES], k: usize) -> [bool; MAX_NODES] {
 }
 
 /// The verdicts of node k at the first `count` ticks, with the scratch cleared.
-fn judge(t: &Parsed, k: usize, trace: Trace, count: usize, scratch: &mut [u64], out: &mut [u64]) {
+fn judge<C: Columns>(t: &Parsed, k: usize, trace: Trace, count: usize, scratch: &mut [u64], out: &mut [u64]) {
     let n = trace.0.len() + trace.1.len();
     let needed = needed(&t.nodes, k);
     for i in (0..=k).filter(|i| needed[*i]) {
-        node(&t.nodes[i], i, n, trace, &mut scratch[..SCRATCH_WORDS]);
+        node::<C>(&t.nodes[i], i, n, trace, &mut scratch[..SCRATCH_WORDS]);
     }
     let m = count.div_ceil(64);
     out[..m].copy_from_slice(&scratch[REGISTER_WORDS * k..REGISTER_WORDS * k + m]);
@@ -221,7 +257,7 @@ pub fn verdicts(table: &[u8; TABLE_BYTES], rule: u32, states: &[u32], scratch: &
     if scratch.len() < SCRATCH_WORDS || out.len() < states.len().div_ceil(64) {
         return BUFFER;
     }
-    judge(&t, t.rules[rule as usize].watched as usize, (&[], states), states.len(), scratch, out);
+    judge::<Lanes>(&t, t.rules[rule as usize].watched as usize, (&[], states), states.len(), scratch, out);
     OK
 }
 
@@ -276,6 +312,15 @@ fn keep(history: &mut [u32], h: usize, block: &[u32], left: usize) {
 
 /// The number and the count.
 pub fn feed(session: &mut [u8; SESSION_BYTES], block: &[u32], history: &mut [u32], scratch: &mut [u64], out: &mut [u64]) -> (u32, u32) {
+    feed_by::<Lanes>(session, block, history, scratch, out)
+}
+
+/// The same with columns made as before A6.
+pub fn feed_before(session: &mut [u8; SESSION_BYTES], block: &[u32], history: &mut [u32], scratch: &mut [u64], out: &mut [u64]) -> (u32, u32) {
+    feed_by::<Digits>(session, block, history, scratch, out)
+}
+
+fn feed_by<C: Columns>(session: &mut [u8; SESSION_BYTES], block: &[u32], history: &mut [u32], scratch: &mut [u64], out: &mut [u64]) -> (u32, u32) {
     let Some(s) = Session::parse(session) else { return (UNSOUND, 0) };
     if block.len() > MAX_BLOCK {
         return (STATES, 0);
@@ -286,7 +331,7 @@ pub fn feed(session: &mut [u8; SESSION_BYTES], block: &[u32], history: &mut [u32
     let Some(after) = s.seen.checked_add(block.len()) else { return (SEEN, 0) };
     let h = s.seen.min(s.delay);
     let count = after.saturating_sub(s.delay) - s.seen.saturating_sub(s.delay);
-    judge(&s.table, s.watched, (&history[..h], block), count, scratch, out);
+    judge::<C>(&s.table, s.watched, (&history[..h], block), count, scratch, out);
     out[count.div_ceil(64)..FEED_WORDS].fill(0);
     keep(history, h, block, after.min(s.delay));
     put_seen(session, after);
@@ -300,14 +345,14 @@ pub fn close(session: &mut [u8; SESSION_BYTES], history: &[u32], scratch: &mut [
         return (BUFFER, 0);
     }
     let count = s.seen.min(s.delay);
-    judge(&s.table, s.watched, (&history[..count], &[]), count, scratch, out);
+    judge::<Lanes>(&s.table, s.watched, (&history[..count], &[]), count, scratch, out);
     out[count.div_ceil(64)..CLOSE_WORDS].fill(0);
     put_seen(session, 0);
     (OK, count as u32)
 }
 
 /// The column of node x at place i, for a trace of n states.
-fn node(x: &Node, i: usize, n: usize, trace: Trace, scratch: &mut [u64]) {
+fn node<C: Columns>(x: &Node, i: usize, n: usize, trace: Trace, scratch: &mut [u64]) {
     let m = n.div_ceil(64);
     let (operands, rest) = scratch.split_at_mut(REGISTER_WORDS * i);
     let (own, work) = rest.split_at_mut(REGISTER_WORDS * MAX_NODES - REGISTER_WORDS * i);
@@ -316,7 +361,7 @@ fn node(x: &Node, i: usize, n: usize, trace: Trace, scratch: &mut [u64]) {
     let (spare, third) = (&mut spare[..m], &mut third[..m]);
     let register = |p: u8| &operands[REGISTER_WORDS * p as usize..REGISTER_WORDS * p as usize + m];
     match x.kind {
-        1 => column(own, trace, x.arg),
+        1 => column::<C>(own, trace, x.arg),
         2 => own.iter_mut().enumerate().for_each(|(w, y)| *y = below(n, w)),
         3 => own.fill(0),
         4 => {

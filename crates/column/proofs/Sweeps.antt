@@ -9,11 +9,11 @@ use native.Mathlib.Omega.{arith}
 use lib.Bits.{bitAnd}
 use lib.ListN.{length, getD, set, drop, replicate, length-set, length-take, length-replicate}
 use lib.Seq.{take-all, ext-getD, getD-set-same, getD-set-other, length-paste, paste-zero}
-use Rattle.lists.specs.Bits.{bitAt, pack}
+use Rattle.lists.specs.Bits.{bitAt, wordAt, pack}
 use Rattle.lists.proofs.Tests.{lt-or-le}
 use Rattle.lists.proofs.Bits.{bit-none}
 use Rattle.lists.proofs.Sequences.{getD-free}
-use Rattle.lists.proofs.Columns.{length-pack, getD-pack, word-is, bitAt-same, bitAt-past}
+use Rattle.lists.proofs.Columns.{length-pack, getD-pack, word-bit, word-lt, word-is, bitAt-same, bitAt-past}
 use Rattle.column.specs.Column.{WordOf, Swept, Laid, Turned, lay, register}
 use Rattle.column.proofs.Registers.{paste-low, paste-in, paste-high, register-in, register-out}
 use Rattle.column.proofs.Words.{own-word, and-words}
@@ -58,6 +58,24 @@ module _ {at w : ℕ} {f : ℕ → Bool} {xs ys : List ℕ} (r : Swept at f w xs
   -- a word was written
   pub set-long : (i x : ℕ) → length (set ys i x) ≡ length xs
   set-long i x = length-set ys i x ∙ r .long
+
+-- the register goes on with words that were written from word a of it on
+pub swept-on : {at a b k : ℕ} {f g : ℕ → Bool} {xs ys zs : List ℕ} → Swept at f a xs ys → b ≡ at + a → Swept b g k ys zs
+    → ((t : ℕ) → t < 64 * k → g t ≡ f (64 * a + t)) → Swept at f (a + k) xs zs
+swept-on {at} {a} {b} {k} {f} {g} {zs = zs} r p s e =
+    record {
+      long = s .long ∙ r .long;
+      laid = λ w h.
+          ⊎-elim
+          (λ (l : w < a). s .low (at + w) (omega arith) ∙ r .laid w l)
+          (λ (l : a ≤ w).
+          let v : at + w ≡ b + (w - a) = omega arith in
+          ap (λ (i : ℕ). getD zs i 0) v ∙ s .laid (w - a) (omega arith)
+          ∙ word-is (wordAt g (w - a)) w f (word-lt g (w - a)) (λ i l. word-bit g (w - a) i l ∙ e (64 * (w - a) + i) (omega arith) ∙ ap f (omega arith)))
+          (lt-or-le w a);
+      low = λ i h. s .low i (omega arith) ∙ r .low i h;
+      high = λ i h. s .high i (omega arith) ∙ r .high i (omega arith);
+    }
 
 -- a sweep from the first word to the last
 module _ {at m : ℕ} {f : ℕ → Bool} {xs ys : List ℕ} (r : Swept at f m xs ys) where

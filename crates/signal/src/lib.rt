@@ -1,63 +1,116 @@
-// A signal's column, packed from a trace that is lent in two parts.
+// A signal's column, packed from a trace that is lent in two parts. Both are read where they lie; the register alone is written.
 ghost use mathlib.Core.Path.{_≡_};
 ghost use mathlib.Core.List.{_++_};
-ghost use Prim.Native.Nat.{_+_, _≤_, _<_, min};
-ghost use lib.ListN.{length, getD};
-ghost use Rattle.limits.specs.Limits.{maxSignal, maxTrace, registerWords};
+ghost use Prim.Native.Nat.{_+_, _-_, _*_, _/_, _≤_, _<_, min};
+ghost use lib.ListN.{length};
+ghost use Rattle.limits.specs.Limits.{maxSignal, registerWords};
 ghost use Rattle.lists.specs.Bits.{bit, digit, number};
-ghost use Rattle.column.specs.Column.{Laid, WordOf};
-ghost use Rattle.signal.specs.Signal.{signalColumn};
+ghost use Rattle.column.specs.Column.{WordOf, Swept};
+ghost use Rattle.signal.specs.Signal.{signalColumn, SignalPacked};
+ghost use Rattle.signal.specs.Code.Steps.{fourths};
 use limits::MAX_SIGNAL;
 use limits::REGISTER_WORDS;
 
 // How many signals a state has.
 const SIGNALS: usize = MAX_SIGNAL as usize + 1;
 
-// State t of a trace in two parts, and 0 past its end.
-fn state_at(older: &[u32], newer: &[u32], t: usize) -> u32
-    ensures { λ r. ⌜ r ≡ getD (now (older .entry) ++ now (newer .entry)) t 0 ⌝ }
-{
-    let m = older.len();
-    if t < m {
-        return older[t];
-    }
-    let u = t - m;
-    if u < newer.len() {
-        return newer[u];
-    }
-    0
-}
-
 // Bit i of a state as a digit.
-fn digit_of(state: u32, i: usize) -> u64
+fn digit_of(state: u32, i: usize) -> u32
     requires { ⌜ i ≤ maxSignal ⌝ }
     ensures { λ r. ⌜ r ≡ digit (bit state i) ⌝ }
 {
-    (state >> i & 1) as u64
+    state >> i & 1
+}
+
+// ---- whole words
+
+// Bit i of every fourth one of the states from `from` on, eight of them, each at its place.
+fn every_fourth(states: &[u32], i: usize, from: usize) -> u32
+    requires { ⌜ (i ≤ maxSignal) × (from + 29 ≤ length (now states)) ⌝ }
+    ensures { λ r. ⌜ r ≡ number 29 (fourths (λ j. signalColumn i (now (states .entry)) (from + j))) ⌝ }
+{
+    let mut x: u32 = 0;
+    for k in 0..8 {
+        x = x | digit_of(states[from + 4 * k], i) << (4 * k);
+    }
+    x
+}
+
+// Bit i of the 32 states from `from` on. Four states that follow each other go into four numbers, so that the compiler takes them at once.
+fn half_word(states: &[u32], i: usize, from: usize) -> u64
+    requires { ⌜ (i ≤ maxSignal) × (from + 32 ≤ length (now states)) ⌝ }
+    ensures { λ r. ⌜ r ≡ number 32 (λ j. signalColumn i (now (states .entry)) (from + j)) ⌝ }
+{
+    let a = every_fourth(states, i, from) as u64;
+    let b = every_fourth(states, i, from + 1) as u64;
+    let c = every_fourth(states, i, from + 2) as u64;
+    let d = every_fourth(states, i, from + 3) as u64;
+    a | b << 1 | c << 2 | d << 3
 }
 
 // Bit i of the 64 states from `from` on.
-fn gathered(states: &[u32], i: usize, from: usize) -> u64
+fn whole_word(states: &[u32], i: usize, from: usize) -> u64
     requires { ⌜ (i ≤ maxSignal) × (from + 64 ≤ length (now states)) ⌝ }
     ensures { λ r. ⌜ r ≡ number 64 (λ j. signalColumn i (now (states .entry)) (from + j)) ⌝ }
 {
+    let low = half_word(states, i, from);
+    let high = half_word(states, i, from + 32);
+    low | high << 32
+}
+
+// ---- other words
+
+// Bit i of the `count` states from `from` on.
+fn part_word(states: &[u32], i: usize, from: usize, count: usize) -> u64
+    requires { ⌜ (i ≤ maxSignal) × (from + count ≤ length (now states)) × (count ≤ 64) ⌝ }
+    ensures { λ r. ⌜ r ≡ number count (λ j. signalColumn i (now (states .entry)) (from + j)) ⌝ }
+{
     let mut x: u64 = 0;
-    for j in 0..64 {
-        x = x | digit_of(states[from + j], i) << j;
+    for j in 0..count {
+        x = x | (digit_of(states[from + j], i) as u64) << j;
     }
     x
 }
 
-// The same of a trace in two parts, and clear past its end.
-fn gathered_apart(older: &[u32], newer: &[u32], i: usize, from: usize) -> u64
-    requires { ⌜ (i ≤ maxSignal) × (from < maxTrace) ⌝ }
+fn lesser(a: usize, b: usize) -> usize
+    ensures { λ r. ⌜ r ≡ min a b ⌝ }
+{
+    if a < b { a } else { b }
+}
+
+fn over(a: usize, b: usize) -> usize
+    ensures { λ r. ⌜ r ≡ a - b ⌝ }
+{
+    if a < b { 0 } else { a - b }
+}
+
+// Bit i of the 64 states from `from` on, and clear past the last one.
+fn last_word(states: &[u32], i: usize, from: usize) -> u64
+    requires { ⌜ i ≤ maxSignal ⌝ }
+    ensures { λ r. ⌜ r ≡ number 64 (λ j. signalColumn i (now (states .entry)) (from + j)) ⌝ }
+{
+    let n = over(states.len(), from);
+    if 64 <= n {
+        return whole_word(states, i, from);
+    }
+    if n == 0 {
+        return 0;
+    }
+    part_word(states, i, from, n)
+}
+
+// The same of a trace in two parts, whose state at `from` is in the older one.
+fn joint_word(older: &[u32], newer: &[u32], i: usize, from: usize) -> u64
+    requires { ⌜ (i ≤ maxSignal) × (from < length (now older)) ⌝ }
     ensures { λ r. ⌜ r ≡ number 64 (λ j. signalColumn i (now (older .entry) ++ now (newer .entry)) (from + j)) ⌝ }
 {
-    let mut x: u64 = 0;
-    for j in 0..64 {
-        x = x | digit_of(state_at(older, newer, from + j), i) << j;
+    let k = older.len() - from;
+    if 64 <= k {
+        return part_word(older, i, from, 64);
     }
-    x
+    let low = part_word(older, i, from, k);
+    let high = part_word(newer, i, 0, lesser(newer.len(), 64 - k));
+    low | high << k
 }
 
 // Word w of a signal's column.
@@ -67,40 +120,76 @@ fn signal_word(older: &[u32], newer: &[u32], i: usize, w: usize) -> u64
 {
     let from = 64 * w;
     let m = older.len();
-    if from + 64 <= m {
-        return gathered(older, i, from);
-    }
     if m <= from {
-        let past = from - m;
-        if past + 64 <= newer.len() {
-            return gathered(newer, i, past);
-        }
+        return last_word(newer, i, from - m);
     }
-    gathered_apart(older, newer, i, from)
+    joint_word(older, newer, i, from)
 }
 
-// How many words of a register are packed.
-fn packed_words(len: usize) -> usize
-    ensures { λ r. ⌜ r ≡ min registerWords len ⌝ }
+// ---- the words of a register
+
+// The `count` words from `at` on become those of the states from `from` on.
+fn whole_words(s: &mut [u64], at: usize, count: usize, states: &[u32], i: usize, from: usize)
+    requires { ⌜ (i ≤ maxSignal) × (at + count ≤ length (now s)) × (64 * count ≤ length (now states) - from) ⌝ }
+    ensures { λ _. ⌜ Swept at (λ t. signalColumn i (now (states .entry)) (from + t)) count (now (s .entry)) (now (s .exit)) ⌝ }
 {
-    if len < REGISTER_WORDS {
-        len
-    } else {
-        REGISTER_WORDS
+    for w in 0..count {
+        let x = whole_word(states, i, from + 64 * w);
+        s[at + w] = x;
     }
+}
+
+// The `count` words from `at` on become those of the column, whatever states they have.
+fn other_words(s: &mut [u64], at: usize, count: usize, older: &[u32], newer: &[u32], i: usize)
+    requires { ⌜ (i ≤ maxSignal) × (at + count ≤ length (now s)) × (at + count ≤ registerWords) ⌝ }
+    ensures { λ _. ⌜ Swept at (λ t. signalColumn i (now (older .entry) ++ now (newer .entry)) (64 * at + t)) count (now (s .entry)) (now (s .exit)) ⌝ }
+{
+    for w in 0..count {
+        let x = signal_word(older, newer, i, at + w);
+        s[at + w] = x;
+    }
+}
+
+// How many words of 64 the states from `from` on fill, at most `room`.
+fn filled_words(states: usize, from: usize, room: usize) -> usize
+    ensures { λ r. ⌜ r ≡ min room ((states - from) / 64) ⌝ }
+{
+    lesser(room, over(states, from) / 64)
+}
+
+// The words that the older part fills, and the one after them, in which it ends: how many they are, at most `words`.
+fn older_words(s: &mut [u64], words: usize, older: &[u32], newer: &[u32], i: usize) -> usize
+    requires { ⌜ (i ≤ maxSignal) × (words ≤ length (now s)) × (words ≤ registerWords) ⌝ }
+    ensures { λ r. ⌜ (r ≡ min words (length (now (older .entry)) / 64 + 1)) × Swept 0 (signalColumn i (now (older .entry) ++ now (newer .entry))) r (now (s .entry)) (now (s .exit)) ⌝ }
+{
+    let a = filled_words(older.len(), 0, words);
+    let b = lesser(words, a + 1);
+    whole_words(s, 0, a, older, i, 0);
+    other_words(s, a, b - a, older, newer, i);
+    b
+}
+
+// The words from the next one on, up to `words`: those that the newer part fills, and the rest.
+fn newer_words(s: &mut [u64], at: usize, words: usize, older: &[u32], newer: &[u32], i: usize)
+    requires { ⌜ (i ≤ maxSignal) × (words ≤ length (now s)) × (words ≤ registerWords) × (at ≡ min words (length (now older) / 64 + 1)) ⌝ }
+    ensures { λ _. ⌜ Swept at (λ t. signalColumn i (now (older .entry) ++ now (newer .entry)) (64 * at + t)) (words - at) (now (s .entry)) (now (s .exit)) ⌝ }
+{
+    let from = over(64 * at, older.len());
+    let c = filled_words(newer.len(), from, words - at);
+    let b = at + c;
+    whole_words(s, at, c, newer, i, from);
+    other_words(s, b, words - b, older, newer, i);
 }
 
 // Bit t of the first register becomes bit i of state t; past the last signal every bit is clear.
 pub fn pack_signal(s: &mut [u64], older: &[u32], newer: &[u32], i: usize)
-    ensures { λ _. ⌜ Laid 0 (min registerWords (length (now (s .entry)))) (signalColumn i (now (older .entry) ++ now (newer .entry))) (now (s .entry)) (now (s .exit)) ⌝ }
+    ensures { λ _. ⌜ SignalPacked i (min registerWords (length (now (s .entry)))) (now (older .entry) ++ now (newer .entry)) (now (s .entry)) (now (s .exit)) ⌝ }
 {
-    let words = packed_words(s.len());
+    let words = lesser(REGISTER_WORDS, s.len());
     if SIGNALS <= i {
         column::fill(&mut s[0..words], 0);
         return;
     }
-    for w in 0..words {
-        let m = signal_word(older, newer, i, w);
-        s[w] = m;
-    }
+    let at = older_words(s, words, older, newer, i);
+    newer_words(s, at, words, older, newer, i);
 }

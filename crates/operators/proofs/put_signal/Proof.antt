@@ -34,7 +34,7 @@ returns-2 c =
     let o = c .before .before .before .before in
     let a = start (o .before) .args in
     let u = c .before .before .pack-signal in
-    turns (a .s .now) (signalLaid (a .b) (a .m) (a .older .now ++ a .newer .now) (a .i) (a .s .now)) (sym (o .before .apart .ensures) ∙ not-false _ (o .if1 .left)) (part-first (a .m) (u .last .0) (fit o) (u .ensures) .is)
+    turns (a .s .now) (signalLaid (a .b) (a .m) (a .older .now ++ a .newer .now) (a .i) (a .s .now)) (sym (o .before .apart .ensures) ∙ not-false _ (o .if1 .left)) (part-first (a .m) (u .last .0) (fit o) (u .ensures .laid) .is)
 
 pub put-signal-spec : {M : Type 1} → statement M
 put-signal-spec =

@@ -1,16 +1,8 @@
 -- `signal::digit_of` meets its contract. Assumes nothing.
-use Prim.Native.Nat.{_/_, _^_}
-use native.Mathlib.Omega.{arith}
 use borrow.Author.Needs.{needs}
-use lib.Bits.{and-le-r}
 use Rattle.signal.proofs.Signals.{bit-digit}
 use Rattle.signal.proofs.digit_of.Statement.{statement}
 use Rattle.signal.proofs.digit_of.Tie as tie
 
 pub digit-of-spec : {M : Type 1} → statement M
-digit-of-spec =
-    tie.close
-    (tie.spec
-    (search needs) (search needs)
-    (λ c. let a = c .args in omega (arith, and-le-r (a .state / 2 ^ a .i) 1))
-    (λ c. bit-digit (c .args .state) (c .args .i)))
+digit-of-spec = tie.close (tie.spec (search needs) (search needs) (λ c. bit-digit (c .args .state) (c .args .i)))

@@ -1,0 +1,2 @@
+-- a word put together from parts of it
+pub mod Steps
