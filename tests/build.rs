@@ -5,6 +5,11 @@ fn main() {
     println!("cargo:rustc-link-search=native={lib}");
     println!("cargo:rustc-link-lib=static=juntreak");
     println!("cargo:rerun-if-changed={lib}/libjuntreak.a");
+    if std::env::var("CARGO_FEATURE_BEFORE").is_ok() {
+        println!("cargo:rustc-link-search=native={here}/../target/before");
+        println!("cargo:rustc-link-lib=static=before");
+        println!("cargo:rerun-if-changed={here}/../target/before/libbefore.a");
+    }
 
     let header = format!("{here}/../include/juntreak.h");
     println!("cargo:rerun-if-changed={header}");

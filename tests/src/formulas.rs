@@ -13,6 +13,9 @@ impl Formula {
     pub fn signal(&mut self, s: u8) -> u8 {
         self.push(1, s, (0, 0), 0, 0)
     }
+    pub fn constant(&mut self, value: bool) -> u8 {
+        self.push(if value { 2 } else { 3 }, 0, (0, 0), 0, 0)
+    }
     pub fn not(&mut self, a: u8) -> u8 {
         self.push(4, 0, (0, 0), a, 0)
     }

@@ -88,22 +88,27 @@ pub fn widen(narrow: &NarrowBytes, session: &mut SessionBytes) -> u32 {
     unsafe { raw::juntreak_widen(narrow, session) }
 }
 
+/// The number and the count in the answer of a feed or a close.
+pub fn counted(r: u64) -> (u32, u32) {
+    (r as u32, (r >> 32) as u32)
+}
+
 /// The number and the count.
 pub fn feed(session: &mut SessionBytes, block: &[u32], history: &mut [u32], scratch: &mut [u64], out: &mut [u64]) -> (u32, u32) {
     let r = unsafe {
         raw::juntreak_feed(session, block.as_ptr(), block.len(), history.as_mut_ptr(), history.len(), scratch.as_mut_ptr(), scratch.len(), out.as_mut_ptr(), out.len())
     };
-    (r as u32, (r >> 32) as u32)
+    counted(r)
 }
 
 /// The number and the count.
 pub fn close(session: &mut SessionBytes, history: &[u32], scratch: &mut [u64], out: &mut [u64]) -> (u32, u32) {
     let r = unsafe { raw::juntreak_close(session, history.as_ptr(), history.len(), scratch.as_mut_ptr(), scratch.len(), out.as_mut_ptr(), out.len()) };
-    (r as u32, (r >> 32) as u32)
+    counted(r)
 }
 
 /// The number and the count.
 pub fn close_old(session: &mut SessionBytes, history: &[u32], scratch: &mut [u64], out: &mut [u64]) -> (u32, u32) {
     let r = unsafe { raw::juntreak_close_old(session, history.as_ptr(), history.len(), scratch.as_mut_ptr(), scratch.len(), out.as_mut_ptr(), out.len()) };
-    (r as u32, (r >> 32) as u32)
+    counted(r)
 }

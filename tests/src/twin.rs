@@ -198,17 +198,26 @@ impl Columns for Digits {
     }
 }
 
+/// The words that whole chunks of 64 states fill, and how many they are.
+#[inline(always)]
+fn whole_words<C: Columns>(s: &mut [u64], states: &[u32], signal: u8) -> usize {
+    let words = s.iter_mut().zip(states.chunks_exact(64));
+    words.map(|(x, states)| *x = C::word(states.try_into().unwrap(), signal)).count()
+}
+
+/// The words that the older part fills, the one in which it ends, those that the newer part fills, its last states, and none.
 fn column<C: Columns>(s: &mut [u64], (older, newer): Trace, signal: u8) {
-    let whole = |states: &[u32]| C::word(states.try_into().unwrap(), signal);
-    for (w, x) in s.iter_mut().enumerate() {
-        let from = 64 * w;
-        *x = match from.checked_sub(older.len()) {
-            None if from + 64 <= older.len() => whole(&older[from..from + 64]),
-            None => digits(older[from..].iter().chain(newer).take(64), signal),
-            Some(past) if past + 64 <= newer.len() => whole(&newer[past..past + 64]),
-            Some(past) => digits(newer.iter().skip(past), signal),
-        };
+    let a = whole_words::<C>(s, older, signal);
+    let [joint, s @ ..] = &mut s[a..] else { return };
+    let rest = &older[64 * a..];
+    let (now, newer) = newer.split_at(newer.len().min(64 - rest.len()));
+    if whole_words::<C>(std::slice::from_mut(joint), now, signal) == 0 {
+        *joint = digits(rest.iter().chain(now), signal);
     }
+    let b = whole_words::<C>(s, newer, signal);
+    let [last, s @ ..] = &mut s[b..] else { return };
+    *last = digits(newer[64 * b..].iter(), signal);
+    s.fill(0);
 }
 
 /// A trace in two parts, read where they lie.
@@ -303,7 +312,7 @@ pub fn open(table: &[u8; TABLE_BYTES], rule: u32, session: &mut [u8; SESSION_BYT
 }
 
 /// Of the first h states of history and then the block, the last `left` go to history's first places.
-fn keep(history: &mut [u32], h: usize, block: &[u32], left: usize) {
+pub fn keep(history: &mut [u32], h: usize, block: &[u32], left: usize) {
     let skip = h + block.len() - left;
     let m = h.saturating_sub(skip);
     history.copy_within(skip.min(h)..h, 0);

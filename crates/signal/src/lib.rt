@@ -1,13 +1,14 @@
 // A signal's column, packed from a trace that is lent in two parts. Both are read where they lie; the register alone is written.
 ghost use mathlib.Core.Path.{_≡_};
 ghost use mathlib.Core.List.{_++_};
-ghost use Prim.Native.Nat.{_+_, _-_, _*_, _/_, _≤_, _<_, min};
+ghost use Prim.Native.Nat.{_+_, _-_, _*_, _/_, _%_, _^_, _≤_, _<_, min};
+ghost use lib.Bits.{bitOr};
 ghost use lib.ListN.{length};
 ghost use Rattle.limits.specs.Limits.{maxSignal, registerWords};
 ghost use Rattle.lists.specs.Bits.{bit, digit, number};
 ghost use Rattle.column.specs.Column.{WordOf, Swept};
 ghost use Rattle.signal.specs.Signal.{signalColumn, SignalPacked};
-ghost use Rattle.signal.specs.Code.Steps.{fourths};
+ghost use Rattle.signal.specs.Code.Steps.{fourths, LanesOf};
 use limits::MAX_SIGNAL;
 use limits::REGISTER_WORDS;
 
@@ -24,10 +25,10 @@ fn digit_of(state: u32, i: usize) -> u32
 
 // ---- whole words
 
-// Bit i of every fourth one of the states from `from` on, eight of them, each at its place.
+// Bit i of every fourth one of the 32 states from `from` on, each at its place.
 fn every_fourth(states: &[u32], i: usize, from: usize) -> u32
     requires { ⌜ (i ≤ maxSignal) × (from + 29 ≤ length (now states)) ⌝ }
-    ensures { λ r. ⌜ r ≡ number 29 (fourths (λ j. signalColumn i (now (states .entry)) (from + j))) ⌝ }
+    ensures { λ r. ⌜ r ≡ number 32 (fourths (λ j. signalColumn i (now (states .entry)) (from + j))) ⌝ }
 {
     let mut x: u32 = 0;
     for k in 0..8 {
@@ -36,16 +37,31 @@ fn every_fourth(states: &[u32], i: usize, from: usize) -> u32
     x
 }
 
-// Bit i of the 32 states from `from` on. Four states that follow each other go into four numbers, so that the compiler takes them at once.
-fn half_word(states: &[u32], i: usize, from: usize) -> u64
+// The same from each of four states on. Four states that follow each other go to four fields, which the compiler fills at once.
+struct Lanes {
+    a: u32,
+    b: u32,
+    c: u32,
+    d: u32,
+}
+
+fn lanes_from(states: &[u32], i: usize, from: usize) -> Lanes
     requires { ⌜ (i ≤ maxSignal) × (from + 32 ≤ length (now states)) ⌝ }
-    ensures { λ r. ⌜ r ≡ number 32 (λ j. signalColumn i (now (states .entry)) (from + j)) ⌝ }
+    ensures { λ r. ⌜ LanesOf (signalColumn i (now (states .entry))) from r ⌝ }
 {
-    let a = every_fourth(states, i, from) as u64;
-    let b = every_fourth(states, i, from + 1) as u64;
-    let c = every_fourth(states, i, from + 2) as u64;
-    let d = every_fourth(states, i, from + 3) as u64;
-    a | b << 1 | c << 2 | d << 3
+    Lanes {
+        a: every_fourth(states, i, from),
+        b: every_fourth(states, i, from + 1),
+        c: every_fourth(states, i, from + 2),
+        d: every_fourth(states, i, from + 3),
+    }
+}
+
+// The 32 bits of `low` and then those of `high`.
+fn both(low: u32, high: u32) -> u64
+    ensures { λ r. ⌜ r ≡ bitOr low (high * 2 ^ 32 % 2 ^ 64) ⌝ }
+{
+    low as u64 | (high as u64) << 32
 }
 
 // Bit i of the 64 states from `from` on.
@@ -53,9 +69,9 @@ fn whole_word(states: &[u32], i: usize, from: usize) -> u64
     requires { ⌜ (i ≤ maxSignal) × (from + 64 ≤ length (now states)) ⌝ }
     ensures { λ r. ⌜ r ≡ number 64 (λ j. signalColumn i (now (states .entry)) (from + j)) ⌝ }
 {
-    let low = half_word(states, i, from);
-    let high = half_word(states, i, from + 32);
-    low | high << 32
+    let l = lanes_from(states, i, from);
+    let h = lanes_from(states, i, from + 32);
+    both(l.a, h.a) | both(l.b, h.b) << 1 | both(l.c, h.c) << 2 | both(l.d, h.d) << 3
 }
 
 // ---- other words

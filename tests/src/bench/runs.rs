@@ -1,5 +1,5 @@
 //! A stream of states run through each contestant.
-use super::clock::Laps;
+use super::clock::{Contestant, Laps};
 use crate::header::limits::{CLOSE_WORDS, HISTORY_WORDS, MAX_BLOCK, SCRATCH_WORDS, SESSION_BYTES};
 use crate::header::refusals::OK;
 use crate::library::{self, SessionBytes, TableBytes};
@@ -11,7 +11,7 @@ use crate::twin;
 use std::hint::black_box;
 
 /// Runs are timed in parts of so many states.
-const PART: usize = 4 * MAX_BLOCK;
+pub const PART: usize = 4 * MAX_BLOCK;
 
 /// What a session needs beside its bytes.
 pub struct Buffers {
@@ -35,8 +35,10 @@ pub trait Sessions {
 
 pub struct Proved;
 pub struct Twin;
+/// The twin with columns made as before A6.
+pub struct Before;
 
-fn accepted<T>((number, answer): (u32, T)) -> T {
+pub fn accepted<T>((number, answer): (u32, T)) -> T {
     assert_eq!(number, OK);
     answer
 }
@@ -64,6 +66,18 @@ impl Sessions for Twin {
     }
     fn close(s: &mut SessionBytes, b: &mut Buffers) -> u32 {
         accepted(twin::close(s, &b.history, &mut b.scratch, &mut b.out))
+    }
+}
+
+impl Sessions for Before {
+    fn open(table: &TableBytes) -> SessionBytes {
+        Twin::open(table)
+    }
+    fn feed(s: &mut SessionBytes, block: &[u32], b: &mut Buffers) -> u32 {
+        accepted(twin::feed_before(s, block, &mut b.history, &mut b.scratch, &mut b.out))
+    }
+    fn close(s: &mut SessionBytes, b: &mut Buffers) -> u32 {
+        Twin::close(s, b)
     }
 }
 
@@ -104,6 +118,22 @@ fn through_naive(t: &Table, states: &[u32], laps: &mut Laps, mut give: impl FnMu
         part.chunks(MAX_BLOCK).for_each(|block| stream.feed(block, &mut give));
         laps.lap();
     }
+}
+
+/// Feeds of 1,024 states, to a session that has as many as it keeps.
+pub fn feeds<'a, S: Sessions>(table: &TableBytes, states: &'a [u32]) -> Contestant<'a> {
+    let (mut s, mut b) = (S::open(table), Buffers::default());
+    for block in dense(HISTORY_WORDS).chunks(MAX_BLOCK) {
+        S::feed(&mut s, block, &mut b);
+    }
+    Box::new(move |laps| {
+        for part in black_box(states).chunks(PART) {
+            for block in part.chunks(MAX_BLOCK) {
+                black_box(S::feed(&mut s, block, &mut b));
+            }
+            laps.lap();
+        }
+    })
 }
 
 /// A timed run of a session; how many verdicts it gave.

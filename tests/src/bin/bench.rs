@@ -1,11 +1,12 @@
 //! The benchmarks: prints the tables of docs/BENCHMARKS.md. An argument names the file that the plot is written to.
-use juntreak_tests::bench::{early, growth, memory, plot, program, stream, text, whole};
+use juntreak_tests::bench::{early, floor, growth, memory, plot, program, stream, text, whole};
 
 fn main() {
     whole::run();
     early::run();
     text::run();
     let speeds = stream::run();
+    floor::run();
     growth::run();
     memory::run();
     program::run();

@@ -1,6 +1,6 @@
 -- `signal::digit_of` meets its contract. Assumes nothing.
 use borrow.Author.Needs.{needs}
-use Rattle.signal.proofs.Signals.{bit-digit}
+use Rattle.lists.proofs.Numbers.{bit-digit}
 use Rattle.signal.proofs.digit_of.Statement.{statement}
 use Rattle.signal.proofs.digit_of.Tie as tie
 

@@ -3,9 +3,10 @@ use mathlib.Core.Path.{_≡_}
 use Prim.Native.Nat.{_+_, _-_, _*_, _≤_}
 use borrow.Author.Needs.{needs}
 use Rattle.lists.specs.Bits.{number}
+use Rattle.lists.proofs.Numbers.{number-none, number-done}
 use Rattle.signal.specs.Signal.{signalColumn}
 use Rattle.signal.specs.Code.Steps.{fourths}
-use Rattle.signal.proofs.Signals.{number-none, fourths-more, fourths-done}
+use Rattle.signal.proofs.Signals.{fourths-more}
 use Rattle.signal.proofs.every_fourth.Statement.{statement}
 use Rattle.signal.proofs.every_fourth.Tie as tie
 
@@ -25,4 +26,4 @@ every-fourth-spec =
     let l = c .before .before .before .loop in
     let a = c .before .before .before .before .before .args in
     (fourths-more (l .k) (λ j. signalColumn (a .i) (a .states .now) (a .from + j)) (search needs) (l .inv .0) (c .digit-of .ensures), search needs))
-    (λ c. fourths-done _ (c .before .loop .inv .0) (c .before .loop .inv .1) (c .loop-test .left)))
+    (λ c. number-done _ (c .before .loop .inv .0) (search needs) (search needs)))

@@ -2,7 +2,8 @@
 use mathlib.Core.Path.{sym, _∙_}
 use native.Mathlib.Omega.{arith}
 use borrow.Author.Needs.{needs}
-use Rattle.signal.proofs.Signals.{last-part, number-none}
+use Rattle.lists.proofs.Numbers.{number-none}
+use Rattle.signal.proofs.Signals.{last-part}
 use Rattle.signal.proofs.last_word.Statement.{statement}
 use Rattle.signal.proofs.last_word.Tie as tie
 

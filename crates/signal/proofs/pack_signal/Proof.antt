@@ -1,16 +1,14 @@
 -- `signal::pack_signal` meets its contract. Assumes nothing.
-use mathlib.Core.Path.{_≡_, sym, refl, _∙_}
+use mathlib.Core.Path.{_≡_, sym, _∙_}
 use mathlib.Core.List.{_++_}
 use Prim.Native.Nat.{ℕ, _+_, _-_, _/_, min}
-use native.Mathlib.Nat.{zero-add}
 use native.Mathlib.Omega.{arith}
 use borrow.Author.Needs.{needs}
 use borrow.Author.Tests.{le-ltb}
 use lib.ListN.{length}
-use Rattle.column.proofs.Sweeps.{swept-to, swept-on, swept-laid}
 use Rattle.column.proofs.Parts.{part-turned, laid-as}
 use Rattle.signal.specs.Signal.{signalColumn}
-use Rattle.signal.proofs.Signals.{no-signal, packed}
+use Rattle.signal.proofs.Signals.{no-signal, packed, packed-parts}
 use Rattle.signal.proofs.pack_signal.Statement.{statement}
 use Rattle.signal.proofs.pack_signal.Tie as tie
 
@@ -36,8 +34,7 @@ returns-2 c =
     let m : ℕ = p .lesser .result in
     let e : m ≡ min 80 (length (a .s .now)) = p .lesser .ensures in
     let b : o .older-words .result ≡ min m (length (a .older .now) / 64 + 1) = o .older-words .ensures .0 in
-    packed (a .i) _ (a .older .now ++ a .newer .now) (a .s .now) (omega arith)
-    (swept-laid (swept-to (swept-on (o .older-words .ensures .1) (sym (zero-add _)) (n .newer-words .ensures) (λ t h. refl)) (omega arith)) (λ h. omega arith))
+    packed-parts (a .i) (a .older .now ++ a .newer .now) (a .s .now) e (omega arith) (omega arith) (o .older-words .ensures .1) (n .newer-words .ensures)
 
 pub pack-signal-spec : {M : Type 1} → statement M
 pack-signal-spec =

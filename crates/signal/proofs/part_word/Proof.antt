@@ -3,8 +3,8 @@ use mathlib.Core.Path.{_≡_}
 use Prim.Native.Nat.{_+_, _-_, _≤_}
 use borrow.Author.Needs.{needs}
 use Rattle.lists.specs.Bits.{number}
+use Rattle.lists.proofs.Numbers.{number-none, number-more, number-done}
 use Rattle.signal.specs.Signal.{signalColumn}
-use Rattle.signal.proofs.Signals.{number-none, number-more, number-done}
 use Rattle.signal.proofs.part_word.Statement.{statement}
 use Rattle.signal.proofs.part_word.Tie as tie
 
@@ -23,5 +23,5 @@ part-word-spec =
     (λ c.
     let l = c .before .before .before .loop in
     let a = c .before .before .before .before .before .args in
-    (number-more (l .j) (λ k. signalColumn (a .i) (a .states .now) (a .from + k)) (search needs) (l .inv .0) (c .digit-of .ensures), search needs))
+    (number-more 64 (l .j) (λ k. signalColumn (a .i) (a .states .now) (a .from + k)) (search needs) (l .inv .0) (c .digit-of .ensures), search needs))
     (λ c. number-done _ (c .before .loop .inv .0) (c .before .loop .inv .1) (c .loop-test .left)))
