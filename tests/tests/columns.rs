@@ -127,7 +127,7 @@ fn a_thousand_feeds_before_and_after() {
             let bytes = formula(n, d, true).bytes();
             let [after, before] = in_turns(3, [feeds::<Proved>(&bytes, &states), feeds::<Before>(&bytes, &states)]);
             println!("{n} signals, delay {d}: 1,000 feeds in {:.2} ms, before in {:.2} ms", after * 1e3, before * 1e3);
-            assert!(n < 16 || 1.5 * after < before, "{n} signals, delay {d}: {after} s, before {before} s");
+            assert!(n < 16 || 1.25 * after < before, "{n} signals, delay {d}: {after} s, before {before} s");
         }
     }
 }

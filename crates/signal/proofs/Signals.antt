@@ -1,16 +1,16 @@
 -- A signal's column, put together from parts of its words. Assumes nothing.
-use mathlib.Core.Path.{_≡_, refl, sym, ap, ap₂, _∙_}
+use mathlib.Core.Path.{_≡_, refl, sym, ap, ap₂, subst, _∙_}
 use mathlib.Core.Logic.{⊎-elim}
 use mathlib.Core.Bool.{Bool, true, false, _||_, _&&_}
 use mathlib.Core.List.{List, _++_}
 use Prim.Native.Nat.{ℕ, zero, suc, _+_, _-_, _*_, _/_, _%_, _^_, _≤_, _<_, min}
-use native.Mathlib.Nat.{zero-add}
+use native.Mathlib.Nat.{zero-add, le-antisymm}
 use native.Mathlib.Omega.{arith}
 use borrow.Author.Tests.{eq-eqb, ne-eqb}
 use lib.Bits.{bitOr, or-lt}
 use lib.Dec.{eqb}
-use lib.ListN.{length, getD, length-append, List·getD-append, List·getD-eq-default}
-use lib.Seq.{getD-append-add}
+use lib.ListN.{length, getD, set, length-set, length-append, List·getD-append, List·getD-eq-default}
+use lib.Seq.{getD-append-add, getD-set-same, getD-set-other}
 use Rattle.lists.specs.Bits.{bit, bitAt, digit, number, pack}
 use Rattle.lists.proofs.Tests.{lt-or-le, same-test, eqb-iff}
 use Rattle.lists.proofs.Bits.{bit-none, bit-or, bit-mod, bit-shl-low, bit-shl-high, bit-high, number-lt, number-bit, number-is}
@@ -20,7 +20,7 @@ use Rattle.column.specs.Column.{WordOf, Swept, Laid, lay}
 use Rattle.column.proofs.Registers.{paste-in}
 use Rattle.column.proofs.Sweeps.{swept-none, swept-to, swept-on, swept-laid}
 use Rattle.signal.specs.Signal.{signalColumn, SignalPacked}
-use Rattle.signal.specs.Code.Steps.{fourths}
+use Rattle.signal.specs.Code.Steps.{fourths, Lanes}
 
 -- ---- every fourth bit
 no-fourth : (f : ℕ → Bool) (j : ℕ) → 0 < j % 4 → fourths f j ≡ false
@@ -35,6 +35,35 @@ fourths-more k f h p q =
   where
     first : f (4 * k) ≡ fourths f (4 * k + 0)
     first = rw (eq-eqb ((4 * k + 0) % 4) 0 (omega arith)) (ap f (omega arith))
+
+pub lanes-none : {f : ℕ → Bool} {from : ℕ} {l : List ℕ} → Lanes f from 0 l
+lanes-none = record { low = λ k h. absurd (omega arith); high = λ k h. absurd (omega arith) }
+
+-- a lane more in each half
+module _ {f : ℕ → Bool} {from k : ℕ} {l : List ℕ} (r : Lanes f from k l) {x y : ℕ} (h : k < 4) (e : length l ≡ 8) where
+  pub lanes-more : x ≡ number 32 (fourths (λ j. f (from + k + j))) → y ≡ number 32 (fourths (λ j. f (from + 32 + k + j)))
+      → Lanes f from (k + 1) (set (set l k x) (k + 4) y)
+  lanes-more p q =
+      let long : length (set l k x) ≡ 8 = length-set l k x ∙ e in
+      let kept : (j : ℕ) → (j ≡ k → ⊥) → (j ≡ k + 4 → ⊥) → getD (set (set l k x) (k + 4) y) j 0 ≡ getD l j 0
+      = λ j a b. getD-set-other (set l k x) (k + 4) j y 0 b ∙ getD-set-other l k j x 0 a in
+      record {
+        low = λ j m.
+            ⊎-elim
+            (λ (a : j < k). kept j (λ z. omega arith) (λ z. omega arith) ∙ r .low j a)
+            (λ (a : k ≤ j).
+            let z : j ≡ k = omega arith in
+            rw z (getD-set-other (set l k x) (k + 4) k y 0 (λ z. omega arith) ∙ getD-set-same l k x 0 (omega arith) ∙ p))
+            (lt-or-le j k);
+        high = λ j m.
+            ⊎-elim
+            (λ (a : j < k). kept (j + 4) (λ z. omega arith) (λ z. omega arith) ∙ r .high j a)
+            (λ (a : k ≤ j). let z : j ≡ k = omega arith in rw z (getD-set-same (set l k x) (k + 4) y 0 (omega arith) ∙ q))
+            (lt-or-le j k);
+      }
+
+pub lanes-done : {f : ℕ → Bool} {from k n : ℕ} {l : List ℕ} → Lanes f from k l → k ≤ n → n ≤ k → Lanes f from n l
+lanes-done {f} {from} {l = l} r a b = subst (λ (m : ℕ). Lanes f from m l) (le-antisymm a b) r
 
 pick-one : (r : ℕ) (b : Bool) → r < 4 → (((eqb r 0 && b) || (eqb r 1 && b)) || (eqb r 2 && b)) || (eqb r 3 && b) ≡ b
 pick-one zero true h = refl
@@ -71,11 +100,11 @@ module _ (f : ℕ → Bool) where
       (lt-or-le j l)
 
   -- the four of them are all bits
-  pub fourths-all : (from : ℕ) {a b c d : ℕ} → a ≡ number 64 (fourths (λ j. f (from + j))) → b ≡ number 64 (fourths (λ j. f (from + 1 + j)))
+  pub fourths-all : (from : ℕ) {a b c d : ℕ} → a ≡ number 64 (fourths (λ j. f (from + 0 + j))) → b ≡ number 64 (fourths (λ j. f (from + 1 + j)))
       → c ≡ number 64 (fourths (λ j. f (from + 2 + j))) → d ≡ number 64 (fourths (λ j. f (from + 3 + j)))
       → bitOr (bitOr (bitOr a (b * 2 ^ 1 % 2 ^ 64)) (c * 2 ^ 2 % 2 ^ 64)) (d * 2 ^ 3 % 2 ^ 64) ≡ number 64 (λ j. f (from + j))
   fourths-all from {a} {b} {c} {d} p q r s =
-      let ab : bitOr a (b * 2 % 2 ^ 64) < 2 ^ 64 = or-lt 64 a (b * 2 % 2 ^ 64) (rw p (number-lt 64 (fourths (λ j. f (from + j))))) (omega arith) in
+      let ab : bitOr a (b * 2 % 2 ^ 64) < 2 ^ 64 = or-lt 64 a (b * 2 % 2 ^ 64) (rw p (number-lt 64 (fourths (λ j. f (from + 0 + j))))) (omega arith) in
       let abc : bitOr (bitOr a (b * 2 % 2 ^ 64)) (c * 4 % 2 ^ 64) < 2 ^ 64 = or-lt 64 (bitOr a (b * 2 % 2 ^ 64)) (c * 4 % 2 ^ 64) ab (omega arith) in
       number-is 64 _ (λ j. f (from + j)) (or-lt 64 (bitOr (bitOr a (b * 2 % 2 ^ 64)) (c * 4 % 2 ^ 64)) (d * 8 % 2 ^ 64) abc (omega arith)) λ j m.
       bit-or _ _ j
@@ -83,7 +112,7 @@ module _ (f : ℕ → Bool) where
       (bit-or _ _ j
       ∙ ap₂ _||_
       (bit-or _ _ j
-      ∙ ap₂ _||_ (ap (λ (z : ℕ). bit z j) p ∙ number-bit 64 (fourths (λ j. f (from + j))) j m) (moved-bit from 1 (omega arith) q j m))
+      ∙ ap₂ _||_ (ap (λ (z : ℕ). bit z j) p ∙ number-bit 64 (fourths (λ j. f (from + 0 + j))) j m ∙ ap (λ (n : ℕ). eqb (j % 4) 0 && f n) (omega arith)) (moved-bit from 1 (omega arith) q j m))
       (moved-bit from 2 (omega arith) r j m))
       (moved-bit from 3 (omega arith) s j m)
       ∙ pick-one (j % 4) (f (from + j)) (omega arith)

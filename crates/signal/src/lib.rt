@@ -8,7 +8,7 @@ ghost use Rattle.limits.specs.Limits.{maxSignal, registerWords};
 ghost use Rattle.lists.specs.Bits.{bit, digit, number};
 ghost use Rattle.column.specs.Column.{WordOf, Swept};
 ghost use Rattle.signal.specs.Signal.{signalColumn, SignalPacked};
-ghost use Rattle.signal.specs.Code.Steps.{fourths, LanesOf};
+ghost use Rattle.signal.specs.Code.Steps.{fourths, Lanes};
 use limits::MAX_SIGNAL;
 use limits::REGISTER_WORDS;
 
@@ -37,24 +37,17 @@ fn every_fourth(states: &[u32], i: usize, from: usize) -> u32
     x
 }
 
-// The same from each of four states on. Four states that follow each other go to four fields, which the compiler fills at once.
-struct Lanes {
-    a: u32,
-    b: u32,
-    c: u32,
-    d: u32,
-}
-
-fn lanes_from(states: &[u32], i: usize, from: usize) -> Lanes
-    requires { ⌜ (i ≤ maxSignal) × (from + 32 ≤ length (now states)) ⌝ }
-    ensures { λ r. ⌜ LanesOf (signalColumn i (now (states .entry))) from r ⌝ }
+// The same from each of four states that follow each other on, and once more 32 states later. The compiler takes the four at once.
+fn lanes_from(states: &[u32], i: usize, from: usize) -> [u32; 8]
+    requires { ⌜ (i ≤ maxSignal) × (from + 64 ≤ length (now states)) ⌝ }
+    ensures { λ r. ⌜ Lanes (signalColumn i (now (states .entry))) from 4 r ⌝ }
 {
-    Lanes {
-        a: every_fourth(states, i, from),
-        b: every_fourth(states, i, from + 1),
-        c: every_fourth(states, i, from + 2),
-        d: every_fourth(states, i, from + 3),
+    let mut l = [0u32; 8];
+    for k in 0..4 {
+        l[k] = every_fourth(states, i, from + k);
+        l[k + 4] = every_fourth(states, i, from + 32 + k);
     }
+    l
 }
 
 // The 32 bits of `low` and then those of `high`.
@@ -70,8 +63,7 @@ fn whole_word(states: &[u32], i: usize, from: usize) -> u64
     ensures { λ r. ⌜ r ≡ number 64 (λ j. signalColumn i (now (states .entry)) (from + j)) ⌝ }
 {
     let l = lanes_from(states, i, from);
-    let h = lanes_from(states, i, from + 32);
-    both(l.a, h.a) | both(l.b, h.b) << 1 | both(l.c, h.c) << 2 | both(l.d, h.d) << 3
+    both(l[0], l[4]) | both(l[1], l[5]) << 1 | both(l[2], l[6]) << 2 | both(l[3], l[7]) << 3
 }
 
 // ---- other words
