@@ -1,5 +1,5 @@
 -- Sweeps over a register with its column moved down. Assumes nothing.
-use mathlib.Core.Path.{_≡_, sym, ap, _∙_, subst}
+use mathlib.Core.Path.{_≡_, refl, sym, ap, _∙_, subst}
 use mathlib.Core.Logic.{inr, ⊎-elim}
 use mathlib.Core.Bool.{Bool, false, _||_, _&&_, and-false}
 use mathlib.Core.List.{List}
@@ -13,7 +13,7 @@ use borrow.Rule.Slice.PartMut.{putMid, midOf}
 use Rattle.lists.specs.Bits.{bitAt, pack}
 use Rattle.lists.proofs.Tests.{lt-or-le}
 use Rattle.lists.proofs.Bits.{bit-none}
-use Rattle.lists.proofs.Columns.{length-pack, getD-pack, word-is, bitAt-past}
+use Rattle.lists.proofs.Columns.{length-pack, getD-pack, word-is, bitAt-past, pack-is}
 use Rattle.column.specs.Column.{WordOf, Swept, Laid, Turned, register}
 use Rattle.column.proofs.Words.{own-word, word-by, or-words, and-words}
 use Rattle.column.proofs.Registers.{paste-low, paste-in, register-in}
@@ -113,3 +113,7 @@ vanishes {f} {k} {xs} {ys} {zs} r h q z =
           (lt-or-le i k)
           ∙ sym (getD-pack (length xs) f i (omega arith));
     }
+
+-- moved by nothing
+pub moved-none : (by : ℕ) (xs : List ℕ) → by ≡ 0 → ((i : ℕ) → getD xs i 0 < 2 ^ 64) → Turned (moved by xs) xs xs
+moved-none by xs e fits = record { is = pack-is xs (length xs) (moved by xs) refl fits (λ t h. ap (bitAt xs) (omega arith)) }

@@ -51,6 +51,9 @@ module _ {f : ℕ → Bool} (by : ℕ) {w : ℕ} where
           ∙ bit-mod 64 (y * 2 ^ 1) (r + i - 63) (omega arith) ∙ ap (bit (y * 2 ^ 1)) (let e : r + i - 63 ≡ 1 + (r + i - 64) = omega arith in e)
           ∙ bit-shl-high 1 y (r + i - 64) ∙ q .bits (r + i - 64) (omega arith) ∙ ap f (omega arith))
 
+  pub moved-whole : {x : ℕ} → by % 64 ≡ 0 → WordOf f (w + by / 64) x → WordOf (λ t. f (t + by)) w x
+  moved-whole e p = record { fits = p .fits; bits = λ i h. p .bits i h ∙ ap f (omega arith) }
+
   pub moved-last : {x : ℕ} → WordOf f (w + by / 64) x → ((t : ℕ) → 64 * (w + by / 64 + 1) ≤ t → f t ≡ false) → WordOf (λ t. f (t + by)) w (x / 2 ^ (by % 64))
   moved-last {x} p z =
       record {

@@ -1,7 +1,7 @@
 // A register's column moved down, alone and with itself. `reach` and `sustain` take two registers in one slice, as crate pair has them; the others take the
 // whole slice as one.
 ghost use mathlib.Core.Path.{_≡_};
-ghost use Prim.Native.Nat.{_+_, _-_, _/_, _≤_, _<_};
+ghost use Prim.Native.Nat.{_+_, _-_, _/_, _%_, _≤_, _<_};
 ghost use lib.ListN.{length};
 ghost use Rattle.column.specs.Column.{Turned, WordOf, Swept, register};
 ghost use Rattle.pair.specs.Pair.{room, IntoFirst};
@@ -22,6 +22,14 @@ fn last_word(s: &[u64], words: usize, by: usize, w: usize) -> u64
     ensures { λ x. ⌜ WordOf (moved by (register 0 words (now (s .entry)))) w x ⌝ }
 {
     s[w + by / 64] >> (by % 64)
+}
+
+// The same of every word, where `by` is a number of whole words.
+fn whole_word(s: &[u64], words: usize, by: usize, w: usize) -> u64
+    requires { ⌜ (words ≤ length (now s)) × (w + by / 64 < words) × (by % 64 ≡ 0) ⌝ }
+    ensures { λ x. ⌜ WordOf (moved by (register 0 words (now (s .entry)))) w x ⌝ }
+{
+    s[w + by / 64]
 }
 
 // How many words of a register have bits of its column moved down.
@@ -88,12 +96,22 @@ fn sustain_words(s: &mut [u64], d: usize, by: usize, words: usize, left: usize)
 }
 
 // Bit t becomes bit t + by.
-pub fn move_down(s: &mut [u64], by: usize)
+fn move_register(s: &mut [u64], by: usize)
     ensures { λ _. ⌜ Turned (moved by (now (s .entry))) (now (s .entry)) (now (s .exit)) ⌝ }
 {
     let left = words_left(s.len(), by);
     move_words(s, by, left);
     column::clear(&mut s[left..]);
+}
+
+// The same, at once where nothing moves.
+pub fn move_down(s: &mut [u64], by: usize)
+    ensures { λ _. ⌜ Turned (moved by (now (s .entry))) (now (s .entry)) (now (s .exit)) ⌝ }
+{
+    if by == 0 {
+        return;
+    }
+    move_register(s, by);
 }
 
 // Bit t becomes bit t and bit t + by.
@@ -106,7 +124,7 @@ pub fn meet_moved(s: &mut [u64], by: usize)
 }
 
 // Bit t becomes bit t or bit t + by.
-pub fn join_moved(s: &mut [u64], by: usize)
+fn join_register(s: &mut [u64], by: usize)
     ensures { λ _. ⌜ Turned (joined by (now (s .entry))) (now (s .entry)) (now (s .exit)) ⌝ }
 {
     let words = s.len();
@@ -121,6 +139,30 @@ pub fn join_moved(s: &mut [u64], by: usize)
     }
     let m = s[last] | last_word(s, words, by, last);
     s[last] = m;
+}
+
+// The same, where `by` is a number of whole words.
+fn join_words(s: &mut [u64], by: usize)
+    requires { ⌜ by % 64 ≡ 0 ⌝ }
+    ensures { λ _. ⌜ Turned (joined by (now (s .entry))) (now (s .entry)) (now (s .exit)) ⌝ }
+{
+    let words = s.len();
+    let left = words_left(words, by);
+    for w in 0..left {
+        let m = s[w] | whole_word(s, words, by, w);
+        s[w] = m;
+    }
+}
+
+// The same, word by word where `by` is a number of whole words.
+pub fn join_moved(s: &mut [u64], by: usize)
+    ensures { λ _. ⌜ Turned (joined by (now (s .entry))) (now (s .entry)) (now (s .exit)) ⌝ }
+{
+    if by % 64 == 0 {
+        join_words(s, by);
+        return;
+    }
+    join_register(s, by);
 }
 
 // Bit t of the first register becomes that bit, or bit t of the second and bit t + by of the first.

@@ -4,10 +4,11 @@ use native.Mathlib.Nat.{sub-zero, zero-sub, suc-sub-suc}
 use native.Mathlib.Omega.{arith}
 use mathlib.Core.Path.{_≡_, refl, sym, ap, _∙_}
 use mathlib.Core.List.{List, [], _∷_, _++_}
-use lib.ListN.{length, getD, take, drop, length-take, length-drop}
+use lib.ListN.{length, getD, set, take, drop, length-take, length-drop}
 use lib.Seq.{take-at, take-nil, getD-append-add, getD-drop, getD-take, ext-getD, length-take-le}
 use Rattle.lists.specs.Sequence.{ticks}
 use Rattle.lists.proofs.Sequences.{length-ticks, getD-ticks, drop-past}
+use Rattle.lists.proofs.Loops.{Over, over-more}
 
 module _ {A : Type 0} where
   pub drop-append : (n : ℕ) (xs ys : List A) → drop n (xs ++ ys) ≡ drop n xs ++ drop (n - length xs) ys
@@ -35,6 +36,18 @@ module _ {A : Type 0} where
       let e : by + j ≡ length (ticks f j) + by = omega (arith, length-ticks f j) in
       let g : j + by ≡ by + j = omega arith in
       ap (λ (k : ℕ). getD (ticks f j ++ drop j xs) k d) e ∙ getD-append-add (ticks f j) (drop j xs) by d ∙ getD-drop j xs by d ∙ ap (λ (k : ℕ). getD xs k d) g
+
+-- a loop that moves states down
+module _ (xs : List ℕ) (by : ℕ) where
+  abbrev pub Shifted : List ℕ → ℕ → Type 0
+  Shifted ys j = Over (λ i. getD xs (by + i) 0) xs ys j
+
+  pub shifted-more : (ys : List ℕ) (j : ℕ) → j < length xs → Shifted ys j → Shifted (set ys j (getD ys (by + j) 0)) (j + 1)
+  shifted-more ys j h o =
+      over-more (λ i. getD xs (by + i) 0) xs ys j h (ap (λ (zs : List ℕ). getD zs (by + j) 0) (o .is) ∙ ahead xs (λ i. getD xs (by + i) 0) 0 by j) o
+
+  pub shifted-done : {ys : List ℕ} {j m : ℕ} → by + m ≤ length xs → j ≡ m → Shifted ys j → ys ≡ take m (drop by xs) ++ drop m xs
+  shifted-done {m = m} h e o = o .is ∙ rw e (ap (λ (zs : List ℕ). zs ++ drop m xs) (ticks-part xs 0 by m h))
 
 -- the two moves together
 pub kept-is : (hist mid last block : List ℕ) (h skip m from left : ℕ) → h ≤ left → left ≤ h + length block → left ≤ length hist → length block ≤ length hist

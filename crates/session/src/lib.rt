@@ -1,7 +1,7 @@
 // Sessions: states come in blocks, and verdicts are given as soon as they are settled.
 ghost use mathlib.Core.Path.{_≡_};
 ghost use mathlib.Core.List.{_++_};
-ghost use Prim.Native.Nat.{_+_, _-_, _≤_, min};
+ghost use Prim.Native.Nat.{_+_, _-_, _≤_};
 ghost use lib.ListN.{length, take, drop};
 ghost use Rattle.limits.specs.Limits.{maxBlock, maxSeen};
 ghost use Rattle.lists.specs.Choice.{first};
@@ -119,20 +119,8 @@ fn with_seen(s: Session, seen: u64) -> Session
     Session::with(s.table, s.rule, seen)
 }
 
-fn lesser(a: usize, b: usize) -> usize
-    ensures { λ r. ⌜ r ≡ min a b ⌝ }
-{
-    if a < b { a } else { b }
-}
-
-fn over(a: usize, b: usize) -> usize
-    ensures { λ r. ⌜ r ≡ a - b ⌝ }
-{
-    if a < b { 0 } else { a - b }
-}
-
 // The m states from place `by` on go to the first places.
-fn shift(s: &mut [u32], by: usize, m: usize)
+fn shift_by(s: &mut [u32], by: usize, m: usize)
     requires { ⌜ by + m ≤ length (now s) ⌝ }
     ensures { λ _. ⌜ now (s .exit) ≡ take m (drop by (now (s .entry))) ++ drop m (now (s .entry)) ⌝ }
 {
@@ -140,6 +128,28 @@ fn shift(s: &mut [u32], by: usize, m: usize)
         let x = s[by + j];
         s[j] = x;
     }
+}
+
+// The same from behind a whole block on: by a number that it knows, the compiler moves all at once.
+fn shift_block(s: &mut [u32], m: usize)
+    requires { ⌜ maxBlock + m ≤ length (now s) ⌝ }
+    ensures { λ _. ⌜ now (s .exit) ≡ take m (drop maxBlock (now (s .entry))) ++ drop m (now (s .entry)) ⌝ }
+{
+    for j in 0..m {
+        let x = s[MAX_BLOCK + j];
+        s[j] = x;
+    }
+}
+
+fn shift(s: &mut [u32], by: usize, m: usize)
+    requires { ⌜ by + m ≤ length (now s) ⌝ }
+    ensures { λ _. ⌜ now (s .exit) ≡ take m (drop by (now (s .entry))) ++ drop m (now (s .entry)) ⌝ }
+{
+    if by == MAX_BLOCK {
+        shift_block(s, m);
+        return;
+    }
+    shift_by(s, by, m);
 }
 
 // The block's states from place `from` on go to the places from `at` on.
@@ -159,9 +169,9 @@ fn keep(history: &mut [u32], h: usize, block: &[u32], left: usize)
     ensures { λ _. ⌜ now (history .exit) ≡ drop (h + length (now (block .entry)) - left) (take h (now (history .entry)) ++ now (block .entry)) ++ drop left (now (history .entry)) ⌝ }
 {
     let skip = h + block.len() - left;
-    let m = over(h, skip);
+    let m = lists::over(h, skip);
     shift(history, skip, m);
-    append(history, m, block, over(skip, h));
+    append(history, m, block, lists::over(skip, h));
 }
 
 // The verdicts of the first `count` ticks of a trace, in the first m words of out, the others of which become zero.
@@ -242,8 +252,8 @@ fn advance(
     let place = t.rules[rule].watched as usize;
     let seen = s.seen as usize;
     let after = seen + block.len();
-    let h = lesser(seen, d);
-    let count = over(after, d) - over(seen, d);
+    let h = lists::lesser(seen, d);
+    let count = lists::over(after, d) - lists::over(seen, d);
     write_verdicts(
         t,
         place,
@@ -254,7 +264,7 @@ fn advance(
         scratch,
         out,
     );
-    keep(history, h, block, lesser(after, d));
+    keep(history, h, block, lists::lesser(after, d));
     let session = with_seen(s, after as u64);
     Answer {
         number: 0,
@@ -271,7 +281,7 @@ fn finish(s: Session, d: usize, history: &[u32], scratch: &mut [u64], out: &mut 
     let t = s.table;
     let rule = s.rule;
     let place = t.rules[rule].watched as usize;
-    let count = lesser(s.seen as usize, d);
+    let count = lists::lesser(s.seen as usize, d);
     write_verdicts(
         t,
         place,

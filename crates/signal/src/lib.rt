@@ -80,24 +80,12 @@ fn part_word(states: &[u32], i: usize, from: usize, count: usize) -> u64
     x
 }
 
-fn lesser(a: usize, b: usize) -> usize
-    ensures { λ r. ⌜ r ≡ min a b ⌝ }
-{
-    if a < b { a } else { b }
-}
-
-fn over(a: usize, b: usize) -> usize
-    ensures { λ r. ⌜ r ≡ a - b ⌝ }
-{
-    if a < b { 0 } else { a - b }
-}
-
 // Bit i of the 64 states from `from` on, and clear past the last one.
 fn last_word(states: &[u32], i: usize, from: usize) -> u64
     requires { ⌜ i ≤ maxSignal ⌝ }
     ensures { λ r. ⌜ r ≡ number 64 (λ j. signalColumn i (now (states .entry)) (from + j)) ⌝ }
 {
-    let n = over(states.len(), from);
+    let n = lists::over(states.len(), from);
     if 64 <= n {
         return whole_word(states, i, from);
     }
@@ -117,7 +105,7 @@ fn joint_word(older: &[u32], newer: &[u32], i: usize, from: usize) -> u64
         return part_word(older, i, from, 64);
     }
     let low = part_word(older, i, from, k);
-    let high = part_word(newer, i, 0, lesser(newer.len(), 64 - k));
+    let high = part_word(newer, i, 0, lists::lesser(newer.len(), 64 - k));
     low | high << k
 }
 
@@ -162,7 +150,7 @@ fn other_words(s: &mut [u64], at: usize, count: usize, older: &[u32], newer: &[u
 fn filled_words(states: usize, from: usize, room: usize) -> usize
     ensures { λ r. ⌜ r ≡ min room ((states - from) / 64) ⌝ }
 {
-    lesser(room, over(states, from) / 64)
+    lists::lesser(room, lists::over(states, from) / 64)
 }
 
 // The words that the older part fills, and the one after them, in which it ends: how many they are, at most `words`.
@@ -171,7 +159,7 @@ fn older_words(s: &mut [u64], words: usize, older: &[u32], newer: &[u32], i: usi
     ensures { λ r. ⌜ (r ≡ min words (length (now (older .entry)) / 64 + 1)) × Swept 0 (signalColumn i (now (older .entry) ++ now (newer .entry))) r (now (s .entry)) (now (s .exit)) ⌝ }
 {
     let a = filled_words(older.len(), 0, words);
-    let b = lesser(words, a + 1);
+    let b = lists::lesser(words, a + 1);
     whole_words(s, 0, a, older, i, 0);
     other_words(s, a, b - a, older, newer, i);
     b
@@ -182,7 +170,7 @@ fn newer_words(s: &mut [u64], at: usize, words: usize, older: &[u32], newer: &[u
     requires { ⌜ (i ≤ maxSignal) × (words ≤ length (now s)) × (words ≤ registerWords) × (at ≡ min words (length (now older) / 64 + 1)) ⌝ }
     ensures { λ _. ⌜ Swept at (λ t. signalColumn i (now (older .entry) ++ now (newer .entry)) (64 * at + t)) (words - at) (now (s .entry)) (now (s .exit)) ⌝ }
 {
-    let from = over(64 * at, older.len());
+    let from = lists::over(64 * at, older.len());
     let c = filled_words(newer.len(), from, words - at);
     let b = at + c;
     whole_words(s, at, c, newer, i, from);
@@ -193,7 +181,7 @@ fn newer_words(s: &mut [u64], at: usize, words: usize, older: &[u32], newer: &[u
 pub fn pack_signal(s: &mut [u64], older: &[u32], newer: &[u32], i: usize)
     ensures { λ _. ⌜ SignalPacked i (min registerWords (length (now (s .entry)))) (now (older .entry) ++ now (newer .entry)) (now (s .entry)) (now (s .exit)) ⌝ }
 {
-    let words = lesser(REGISTER_WORDS, s.len());
+    let words = lists::lesser(REGISTER_WORDS, s.len());
     if SIGNALS <= i {
         column::fill(&mut s[0..words], 0);
         return;

@@ -1,7 +1,6 @@
 -- `moves::move_down` meets its contract. Assumes nothing.
-use native.Mathlib.Omega.{arith}
 use borrow.Author.Needs.{needs}
-use Rattle.moves.proofs.Sweeps.{vanishes, moved-past}
+use Rattle.moves.proofs.Sweeps.{moved-none}
 use Rattle.moves.proofs.move_down.Statement.{statement}
 use Rattle.moves.proofs.move_down.Tie as tie
 
@@ -9,9 +8,5 @@ pub move-down-spec : {M : Type 1} → statement M
 move-down-spec =
     tie.close
     (tie.spec
-    (search needs) (search needs) (search needs) (search needs) (search needs) (search needs) (search needs) (search needs)
-    (λ c.
-    let k = c .before .before in
-    let w = k .before .before .before .before in
-    let a = w .before .before .before .before .args in
-    vanishes (w .move-words .ensures) (omega arith) (k .clear .ensures) (λ t h. moved-past (a .by) (a .s .now) t (omega arith))))
+    (λ c. let a = c .before .before .args in moved-none (a .by) (a .s .now) (c .if1 .taken) (λ i. c .before .slice-known .given i .fits))
+    (search needs) (search needs) (λ c. c .before .before .move-register .ensures))

@@ -1,4 +1,4 @@
--- `moves::join_moved` meets its contract. The invariant: the first w words are joined. Assumes nothing.
+-- `moves::join_register` meets its contract. The invariant: the first w words are joined. Assumes nothing.
 use mathlib.Core.Path.{refl}
 use Prim.Native.Nat.{_-_, _≤_}
 use native.Mathlib.Nat.{le-antisymm}
@@ -9,8 +9,8 @@ use Rattle.column.specs.Column.{Swept, register}
 use Rattle.column.proofs.Sweeps.{swept-none, swept-to, set-long}
 use Rattle.moves.specs.Moves.{joined}
 use Rattle.moves.proofs.Sweeps.{joined-next, joined-done}
-use Rattle.moves.proofs.join_moved.Statement.{statement}
-use Rattle.moves.proofs.join_moved.Tie as tie
+use Rattle.moves.proofs.join_register.Statement.{statement}
+use Rattle.moves.proofs.join_register.Tie as tie
 
 abbrev Inv-loop : tie.InvT-loop
 Inv-loop s₀ by words left last w₀ s w = Swept 0 (joined by (register 0 words s₀)) w s₀ s × (w ≤ last)
@@ -18,8 +18,8 @@ Inv-loop s₀ by words left last w₀ s w = Swept 0 (joined by (register 0 words
 abbrev μ-loop : tie.MeasureT-loop
 μ-loop s₀ by words left last w₀ s w = last - w
 
-pub join-moved-spec : {M : Type 1} → statement M
-join-moved-spec =
+pub join-register-spec : {M : Type 1} → statement M
+join-register-spec =
     tie.close
     (tie.spec Inv-loop μ-loop
     (search needs)
