@@ -97,11 +97,26 @@ fn moved(s: &[u64], q: usize, r: u32, w: usize) -> u64 {
 fn pass(s: &mut [u64], by: usize, f: impl Fn(u64, u64) -> u64) {
     let (q, r) = (by / 64, (by % 64) as u32);
     let m = s.len();
+    // By whole words without a shift.
+    if r == 0 {
+        for w in 0..m.saturating_sub(q) {
+            s[w] = f(s[w], s[w + q]);
+        }
+        s[m.saturating_sub(q)..].iter_mut().for_each(|x| *x = f(*x, 0));
+        return;
+    }
     for w in 0..m.saturating_sub(q + 1) {
         s[w] = f(s[w], s[w + q] >> r | s[w + q + 1] << 1 << (63 - r));
     }
     for w in m.saturating_sub(q + 1)..m {
         s[w] = f(s[w], moved(s, q, r, w));
+    }
+}
+
+/// A register's column moved down.
+fn move_down(s: &mut [u64], by: usize) {
+    if by > 0 {
+        pass(s, by, |_, b| b);
     }
 }
 
@@ -117,7 +132,7 @@ fn parts(lo: u16, hi: u16) -> impl Iterator<Item = u32> {
 }
 
 fn eventually(s: &mut [u64], lo: u16, hi: u16) {
-    pass(s, lo as usize, |_, b| b);
+    move_down(s, lo as usize);
     for k in parts(lo, hi) {
         for j in 0..k {
             pass(s, 1 << j, |a, b| a | b);
@@ -126,8 +141,8 @@ fn eventually(s: &mut [u64], lo: u16, hi: u16) {
 }
 
 fn until(right: &mut [u64], left: &mut [u64], work: &mut [u64], lo: u16, hi: u16) {
-    pass(right, lo as usize, |_, b| b);
-    pass(left, lo as usize, |_, b| b);
+    move_down(right, lo as usize);
+    move_down(left, lo as usize);
     for k in parts(lo, hi) {
         work.copy_from_slice(left);
         for j in 0..k {
@@ -161,21 +176,15 @@ trait Columns {
     fn word(states: &[u32; 64], signal: u8) -> u64;
 }
 
-/// As the library makes them: four states that follow each other go into four numbers.
+/// As the library makes them: four states that follow each other go to four lanes.
 struct Lanes;
 /// As it made them before A6: one state after the other into one number.
 struct Digits;
 
-/// Every fourth bit of a signal from state l on, each at its place.
+/// Every fourth bit of a signal from a state on, eight of them, each at its place.
 #[inline(always)]
-fn lane(states: &[u32; 32], signal: u8, l: usize) -> u64 {
-    (0..8).fold(0u32, |x, k| x | (states[4 * k + l] >> signal & 1) << (4 * k)) as u64
-}
-
-#[inline(always)]
-fn half(states: &[u32], signal: u8) -> u64 {
-    let states = states.try_into().unwrap();
-    lane(states, signal, 0) | lane(states, signal, 1) << 1 | lane(states, signal, 2) << 2 | lane(states, signal, 3) << 3
+fn every_fourth(states: &[u32; 64], signal: u8, from: usize) -> u32 {
+    (0..8).fold(0, |x, k| x | (states[from + 4 * k] >> signal & 1) << (4 * k))
 }
 
 /// A signal's bits of up to 64 states.
@@ -187,7 +196,12 @@ fn digits<'a>(states: impl Iterator<Item = &'a u32>, signal: u8) -> u64 {
 impl Columns for Lanes {
     #[inline(always)]
     fn word(states: &[u32; 64], signal: u8) -> u64 {
-        half(&states[..32], signal) | half(&states[32..], signal) << 32
+        let mut lanes = [0u32; 8];
+        for k in 0..4 {
+            lanes[k] = every_fourth(states, signal, k);
+            lanes[k + 4] = every_fourth(states, signal, k + 32);
+        }
+        (0..4).fold(0, |x, k| x | (lanes[k] as u64 | (lanes[k + 4] as u64) << 32) << k)
     }
 }
 

@@ -117,13 +117,15 @@ module _ (f : ℕ → Bool) where
       (moved-bit from 3 (omega arith) s j m)
       ∙ pick-one (j % 4) (f (from + j)) (omega arith)
 
--- ---- the states of a trace in two parts
-module _ (a b : List ℕ) (t : ℕ) where
-  state-low : t < length a → getD a t 0 ≡ getD (a ++ b) t 0
-  state-low h = sym (List·getD-append a b 0 t h)
+-- ---- the column of a trace in two parts
+module _ (i : ℕ) (a b : List ℕ) where
+  from-older : (t : ℕ) → t < length a → signalColumn i a t ≡ signalColumn i (a ++ b) t
+  from-older t h = ap (λ (x : ℕ). bit x i) (sym (List·getD-append a b 0 t h))
 
-  state-high : length a ≤ t → getD b (t - length a) 0 ≡ getD (a ++ b) t 0
-  state-high h = sym (ap (λ (k : ℕ). getD (a ++ b) k 0) (omega arith) ∙ getD-append-add a b (t - length a) 0)
+  pub from-newer : (s t : ℕ) → s + length a ≡ t → signalColumn i b s ≡ signalColumn i (a ++ b) t
+  from-newer s t h =
+      let e : length a + s ≡ t = omega arith in
+      ap (λ (x : ℕ). bit x i) (sym (getD-append-add a b s 0)) ∙ ap (signalColumn i (a ++ b)) e
 
 no-state : (i : ℕ) (states : List ℕ) (t : ℕ) → length states ≤ t → signalColumn i states t ≡ false
 no-state i states t h = ap (λ (x : ℕ). bit x i) (List·getD-eq-default states 0 {n = t} h) ∙ bit-none i
@@ -136,16 +138,14 @@ last-part i from states {count} h l e = e ∙ number-clear count 64 _ (omega ari
 -- the word that begins in the first part of a trace
 module _ (i from : ℕ) (a b : List ℕ) {k x : ℕ} (e : k ≡ length a - from) (h : from < length a) where
   pub first-part : 64 ≤ k → x ≡ number 64 (λ j. signalColumn i a (from + j)) → x ≡ number 64 (λ j. signalColumn i (a ++ b) (from + j))
-  first-part l p = p ∙ number-ext 64 _ _ (λ j c. ap (λ (x : ℕ). bit x i) (state-low a b (from + j) (omega arith)))
+  first-part l p = p ∙ number-ext 64 _ _ (λ j c. from-older i a b (from + j) (omega arith))
 
   pub joint-parts : {r y : ℕ} → k < 64 → r ≡ min (length b) (64 - k) → x ≡ number k (λ j. signalColumn i a (from + j))
       → y ≡ number r (λ j. signalColumn i b (0 + j)) → bitOr x (y * 2 ^ k % 2 ^ 64) ≡ number 64 (λ j. signalColumn i (a ++ b) (from + j))
   joint-parts {r} l m p q =
       number-join 64 k r (λ j. signalColumn i (a ++ b) (from + j)) (omega arith) p q
-      (λ j c. ap (λ (x : ℕ). bit x i) (state-low a b (from + j) (omega arith)))
-      (λ j c.
-      let n : 0 + j ≡ from + (k + j) - length a = omega arith in
-      ap (λ (n : ℕ). bit (getD b n 0) i) n ∙ ap (λ (x : ℕ). bit x i) (state-high a b (from + (k + j)) (omega arith)))
+      (λ j c. from-older i a b (from + j) (omega arith))
+      (λ j c. from-newer i a b (0 + j) (from + (k + j)) (omega arith))
       ∙ number-clear (k + r) 64 _ (omega arith) (λ j u v. no-state i (a ++ b) (from + j) (simp length-append (omega arith)))
 
 -- the word from its 64 digits, wherever they were read
@@ -156,21 +156,12 @@ gathered-word f h e same = rw e (record { fits = number-lt 64 h; bits = λ j l. 
 pub word-from : (at w : ℕ) {x : ℕ} {f : ℕ → Bool} → WordOf f (at + w) x → WordOf (λ t. f (64 * at + t)) w x
 word-from at w {f = f} q = record { fits = q .fits; bits = λ j h. q .bits j h ∙ ap f (omega arith) }
 
--- ---- words of one part in the column of both
-module _ (i : ℕ) (a b : List ℕ) where
-  pub from-older : (t : ℕ) → t < length a → signalColumn i a t ≡ signalColumn i (a ++ b) t
-  from-older t h = ap (λ (x : ℕ). bit x i) (state-low a b t h)
-
-  pub from-newer : (s t : ℕ) → s + length a ≡ t → signalColumn i b s ≡ signalColumn i (a ++ b) t
-  from-newer s t h =
-      let e : s ≡ t - length a = omega arith in ap (λ (n : ℕ). bit (getD b n 0) i) e ∙ ap (λ (x : ℕ). bit x i) (state-high a b t (omega arith))
-
 -- a state has 32 signals
 pub no-signal : (i : ℕ) (a b : List ℕ) → 32 ≤ i → ((t : ℕ) → getD a t 0 < 2 ^ 32) → ((t : ℕ) → getD b t 0 < 2 ^ 32) → (t : ℕ) → signalColumn i (a ++ b) t ≡ false
 no-signal i a b h p q t =
     ⊎-elim
-    (λ (l : t < length a). ap (λ (x : ℕ). bit x i) (sym (state-low a b t l)) ∙ bit-high 32 (getD a t 0) i (p t) h)
-    (λ (l : length a ≤ t). ap (λ (x : ℕ). bit x i) (sym (state-high a b t l)) ∙ bit-high 32 (getD b (t - length a) 0) i (q (t - length a)) h)
+    (λ (l : t < length a). sym (from-older i a b t l) ∙ bit-high 32 (getD a t 0) i (p t) h)
+    (λ (l : length a ≤ t). sym (from-newer i a b (t - length a) t (omega arith)) ∙ bit-high 32 (getD b (t - length a) 0) i (q (t - length a)) h)
     (lt-or-le t (length a))
 
 -- ---- the words of the column

@@ -102,7 +102,7 @@ fn joint_word(older: &[u32], newer: &[u32], i: usize, from: usize) -> u64
 {
     let k = older.len() - from;
     if 64 <= k {
-        return part_word(older, i, from, 64);
+        return whole_word(older, i, from);
     }
     let low = part_word(older, i, from, k);
     let high = part_word(newer, i, 0, lists::lesser(newer.len(), 64 - k));

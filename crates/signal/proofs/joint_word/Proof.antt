@@ -12,9 +12,9 @@ joint-word-spec =
     (search needs) (search needs)
     (λ c.
     let a = c .before .before .before .before .args in
-    first-part (a .i) (a .from) (a .older .now) (a .newer .now) refl (search needs) (c .before .if1 .taken) (c .part-word .ensures))
+    first-part (a .i) (a .from) (a .older .now) (a .newer .now) refl (search needs) (c .before .if1 .taken) (c .whole-word .ensures))
     (search needs) (search needs) (search needs) (search needs) (search needs)
     (λ c.
     let k = c .before .before in
     let a = k .before .before .before .before .args in
-    joint-parts (a .i) (a .from) (a .older .now) (a .newer .now) refl (search needs) (search needs) (c .before .lesser .ensures) (k .part-word2 .ensures) (c .part-word3 .ensures)))
+    joint-parts (a .i) (a .from) (a .older .now) (a .newer .now) refl (search needs) (search needs) (c .before .lesser .ensures) (k .part-word .ensures) (c .part-word2 .ensures)))
