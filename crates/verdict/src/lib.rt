@@ -157,11 +157,12 @@ fn fits_to(t: Table, k: usize) -> bool
         return false;
     }
     let e = k + 1;
-    let mut ok = true;
     for i in 0..e {
-        ok = ok & table::node_fits(t.nodes[i], i);
+        if !table::node_fits(t.nodes[i], i) {
+            return false;
+        }
     }
-    ok
+    true
 }
 
 // Whether the states are few enough, and enough for the verdicts, and the lent words enough for them.
