@@ -141,6 +141,7 @@ fn shift_block(s: &mut [u32], m: usize)
     }
 }
 
+// The same from any place on.
 fn shift(s: &mut [u32], by: usize, m: usize)
     requires { ⌜ by + m ≤ length (now s) ⌝ }
     ensures { λ _. ⌜ now (s .exit) ≡ take m (drop by (now (s .entry))) ++ drop m (now (s .entry)) ⌝ }
