@@ -46,7 +46,7 @@ below-pow zero = omega arith
 below-pow (suc n) = let h = below-pow n in omega (arith, pow-succ' 2 n)
 
 -- 2^i below 2 * 2^j has i at most j
-pow-le : (i j : ℕ) → 2 ^ i < 2 * 2 ^ j → i ≤ j
+pub pow-le : (i j : ℕ) → 2 ^ i < 2 * 2 ^ j → i ≤ j
 pow-le i j h =
     ⊎-elim
     (λ (lt : j < i). let p : 2 ^ suc j ≤ 2 ^ i = pow-mono lt in absurd (omega (arith, pow-succ' 2 j)))
@@ -83,6 +83,9 @@ module _ (v : ℕ) where
   left-sum : (2 ^ top v - 1) + left v ≡ v
   unfolding left
   left-sum = omega (arith, top-largest v .low, pow-pos (top v))
+
+  pub left-le : left v ≤ v
+  left-le = omega (arith, left-sum)
 
   pub left-lt : 0 < v → left v < v
   unfolding left

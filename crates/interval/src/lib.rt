@@ -1,10 +1,14 @@
-// The splitting of an interval's length into parts of 2^k - 1, each as large as fits in what is left.
+// Two splittings of an interval: its width into parts of 2^k - 1, each as large as fits in what is left; and its length into a power of two and what is
+// left over.
 ghost use mathlib.Core.Path.{_≡_};
 ghost use Prim.Native.Nat.{_+_, _≤_};
+ghost use lib.Dec.{eqb};
 ghost use lib.ListN.{length};
 ghost use lib.Seq.{sets};
 ghost use Rattle.limits.specs.Limits.{maxInterval, maxParts};
+ghost use Rattle.lists.specs.Choice.{pick};
 ghost use Rattle.interval.specs.Parts.{top, left, parts, badInterval, splitting};
+ghost use Rattle.interval.specs.Doubling.{doubling};
 use limits::MAX_INTERVAL;
 use limits::MAX_PARTS;
 
@@ -13,6 +17,15 @@ pub struct Splitting {
     pub number: u8,
     pub parts: [u8; MAX_PARTS],
     pub count: usize,
+}
+
+// The exponent of the largest power of two that is at most the length, what the length has beyond it, and how many moves make a window of the
+// length; the number is 0, or that of the refusal.
+pub struct Doubling {
+    pub number: u8,
+    pub exponent: u8,
+    pub leftover: u16,
+    pub count: u8,
 }
 
 struct Found {
@@ -75,5 +88,40 @@ pub fn split(lo: u16, hi: u16) -> Splitting
         number: 0,
         parts,
         count: f.n,
+    }
+}
+
+// How many moves there are: k doublings and, with a leftover, one move more.
+fn moves_for(k: u32, leftover: u32) -> u32
+    requires { ⌜ k ≤ maxParts ⌝ }
+    ensures { λ r. ⌜ (r ≡ pick (eqb leftover 0) k (k + 1)) × (r ≤ k + 1) ⌝ }
+{
+    if leftover == 0 {
+        return k;
+    }
+    k + 1
+}
+
+// The shorter splitting of [lo, hi], for F and G.
+pub fn double(lo: u16, hi: u16) -> Doubling
+    ensures { λ r. ⌜ r ≡ doubling lo hi ⌝ }
+{
+    if bad_interval(lo, hi) {
+        return Doubling {
+            number: refusals::INTERVAL,
+            exponent: 0,
+            leftover: 0,
+            count: 0,
+        };
+    }
+    let v = (hi - lo) as u32;
+    let k = largest(v);
+    let leftover = without(v, k);
+    let count = moves_for(k, leftover);
+    Doubling {
+        number: 0,
+        exponent: k as u8,
+        leftover: leftover as u16,
+        count: count as u8,
     }
 }

@@ -5,6 +5,7 @@ use mathlib.Core.List.{List}
 use lib.Dec.{eqb}
 use Rattle.lists.specs.Choice.{pick}
 use Rattle.interval.specs.declared.Splitting.{Splitting}
+use Rattle.interval.specs.declared.Doubling.{Doubling}
 use Rattle.table.specs.declared.RuleDelay.{RuleDelay}
 use Rattle.book.specs.declared.Writing.{Writing}
 use Rattle.text.specs.declared.Typed.{Typed}
@@ -42,6 +43,10 @@ delayAnswer r = r .number + 65536 * r .delay
 -- the number of a refusal and, above it, the count of parts
 abbrev pub splitAnswer : Splitting → ℕ
 splitAnswer r = r .number + 256 * r .count
+
+-- the number of a refusal and, above it, the exponent, the count of moves and the leftover
+abbrev pub movesAnswer : Doubling → ℕ
+movesAnswer d = d .number + 256 * d .exponent + 65536 * d .count + 4294967296 * d .leftover
 
 -- the number of a refusal and, above it, the count of verdicts
 abbrev pub sessionAnswer : Answer → ℕ

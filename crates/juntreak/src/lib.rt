@@ -3,6 +3,7 @@
 ghost use mathlib.Core.Path.{_≡_};
 ghost use lib.ListN.{length};
 ghost use Rattle.interval.specs.Parts.{splitting};
+ghost use Rattle.interval.specs.Doubling.{doubling};
 ghost use Rattle.table.specs.Nodes.{waitOf};
 ghost use Rattle.table.specs.Sound.{ruleDelay};
 ghost use Rattle.book.specs.Reading.{reading, codeOf};
@@ -14,7 +15,7 @@ ghost use Rattle.session.specs.Session.{opening, feeding, closingBy, closing, c
 ghost use Rattle.narrow.specs.Narrow.{wideOf, widening};
 ghost use Rattle.flat.specs.Flat.{tableFrom, written};
 ghost use Rattle.flat.specs.Sessions.{sessionFrom, sessionWritten, renewed, narrowFrom};
-ghost use Rattle.juntreak.specs.Answers.{leaves, textAnswer, writeAnswer, delayAnswer, splitAnswer, earlyAnswer, Simplifies, stored, counted, Called};
+ghost use Rattle.juntreak.specs.Answers.{leaves, textAnswer, writeAnswer, delayAnswer, splitAnswer, movesAnswer, earlyAnswer, Simplifies, stored, counted, Called};
 use book::Reading;
 use early::Decision;
 use limits::MAX_PARTS;
@@ -138,6 +139,18 @@ pub extern "C" fn juntreak_split(lo: u16, hi: u16, parts: &mut [u8; MAX_PARTS]) 
     let ks = s.parts;
     put_parts(s.number, ks, parts);
     s.number as u32 + 256 * (s.count as u32)
+}
+
+// The shorter splitting of [lo, hi], for F and G: the exponent, the count of moves and the leftover.
+#[no_mangle]
+pub extern "C" fn juntreak_moves(lo: u16, hi: u16) -> u64
+    ensures { λ r. ⌜ r ≡ movesAnswer (doubling lo hi) ⌝ }
+{
+    let d = interval::double(lo, hi);
+    d.number as u64
+        + 256 * (d.exponent as u64)
+        + 65536 * (d.count as u64)
+        + 4294967296 * (d.leftover as u64)
 }
 
 // The verdicts of a rule on a whole trace.

@@ -8,17 +8,19 @@ use Rattle.lists.specs.Bits.{digit}
 use Rattle.lists.specs.Sequence.{padded}
 use Rattle.mltl.specs.Mltl.{Formula, signal, const, F, G, U, R, holds, delay, oldDelay, computationLength}
 use Rattle.interval.specs.Parts.{parts}
+use Rattle.interval.specs.Doubling.{doubling}
 use Rattle.table.specs.declared.Table.{Table}
 use Rattle.table.specs.Nodes.{noNode, noRule}
 use Rattle.session.specs.declared.Session.{Session}
 use Rattle.session.specs.Session.{Effect, opening, feeding, closing}
 
--- a formula with its verdicts on a trace as binary digits, tick 0 first; a length v with its parts; a session over a table, fed two
--- blocks and closed, with the count, the first word and the states kept of each feed, and the count and the first word of the close; a formula
--- with its delay, the one before A5, and its computation length
+-- a formula with its verdicts on a trace as binary digits, tick 0 first; a width v = hi - lo with its parts; a width with the exponent and the
+-- leftover of its shorter splitting (A7); a session over a table, fed two blocks and closed, with the count, the first word and the states kept of
+-- each feed, and the count and the first word of the close; a formula with its delay, the one before A5, and its computation length
 pub data MarkedRow : Type 0 where
   verdicts : Formula → List ℕ → ℕ → MarkedRow
   splits : ℕ → List ℕ → MarkedRow
+  doubles : ℕ → List ℕ → MarkedRow
   streamed : Table → List ℕ → List ℕ → List ℕ → MarkedRow
   waits : Formula → List ℕ → MarkedRow
 
@@ -41,12 +43,14 @@ stream s a b =
 abbrev pub computed : MarkedRow → List ℕ
 computed (verdicts f xs n) = verdictDigits (length xs) f xs ∷ []
 computed (splits v ks) = parts v
+computed (doubles v ns) = doubling 0 v .exponent ∷ doubling 0 v .leftover ∷ []
 computed (streamed t a b ns) = stream (opening t 0 .session) a b
 computed (waits f ns) = delay f ∷ oldDelay f ∷ computationLength f ∷ []
 
 abbrev pub stated : MarkedRow → List ℕ
 stated (verdicts f xs n) = n ∷ []
 stated (splits v ks) = ks
+stated (doubles v ns) = ns
 stated (streamed t a b ns) = ns
 stated (waits f ns) = ns
 
@@ -84,6 +88,9 @@ markedRows =
     ∷ splits 13 (3 ∷ 2 ∷ 2 ∷ [])
     ∷ splits 4084 (11 ∷ 10 ∷ 9 ∷ 8 ∷ 7 ∷ 6 ∷ 5 ∷ 4 ∷ 3 ∷ 2 ∷ 1 ∷ 1 ∷ [])
     ∷ splits 4095 (12 ∷ [])
+    ∷ doubles 5 (2 ∷ 2 ∷ [])
+    ∷ doubles 6 (2 ∷ 3 ∷ [])
+    ∷ doubles 4095 (12 ∷ 0 ∷ [])
     ∷ waits (U 0 2 (F 0 3 (signal 2)) (signal 1)) (4 ∷ 5 ∷ 5 ∷ [])
     ∷ streamed finallyP (2 ∷ 2 ∷ 1 ∷ 0 ∷ 2 ∷ []) (3 ∷ 0 ∷ 0 ∷ []) (2 ∷ 3 ∷ 1 ∷ 0 ∷ 2 ∷ 3 ∷ 7 ∷ 3 ∷ 0 ∷ 0 ∷ 3 ∷ 0 ∷ [])
     ∷ []

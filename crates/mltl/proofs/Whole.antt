@@ -111,9 +111,6 @@ whole-release : (lo hi : ℕ) (b : ℕ → Bool) (t : ℕ) → whole lo hi b t �
 unfolding whole wholeRelease
 whole-release lo hi b t = ap (everyTick (t + lo) (t + hi + 1)) (fun-ext λ i. sym (ap (λ (x : Bool). b i || x) (never (t + lo) i) ∙ or-false (b i)))
 
-abbrev whole-is : (lo hi : ℕ) (b : ℕ → Bool) → whole lo hi b ≡ wholeRelease lo hi (ever false) b
-whole-is lo hi b = fun-ext (whole-release lo hi b)
-
 module _ (b : ℕ → Bool) (t : ℕ) where
   pub whole-now : whole 0 0 b t ≡ b t
   whole-now = whole-release 0 0 b t ∙ wholeRelease-now (ever false) b t
@@ -121,17 +118,10 @@ module _ (b : ℕ → Bool) (t : ℕ) where
   pub whole-clear : (lo hi : ℕ) → lo ≤ hi → b (t + lo) ≡ false → whole lo hi b t ≡ false
   whole-clear lo hi l e = whole-release lo hi b t ∙ wholeRelease-clear (ever false) b t lo hi l e
 
-  -- a window of 2 w ticks from two of w
-  pub whole-double : (w : ℕ) → 0 < w → whole 0 (2 * w - 1) b t ≡ (whole 0 (w - 1) b t && whole 0 (w - 1) b (t + w))
-  whole-double w h =
-      let e : 2 * w - 1 ≡ w + (w - 1) = omega arith in
-      rw e
-      (simp whole-release
-      (wholeRelease-join (ever false) b t (w - 1) w (w - 1) false (omega arith) (omega arith) (λ z. absurd (false≢true z), λ r. r .is)))
-
-pub whole-split : (lo u v : ℕ) (b : ℕ → Bool) → whole lo (lo + u + v) b ≡ whole lo (lo + u) (whole 0 v b)
-whole-split lo u v b =
-    whole-is lo (lo + u + v) b ∙ wholeRelease-split lo u v (ever false) b ∙ ap (wholeRelease lo (lo + u) (ever false)) (sym (whole-is 0 v b)) ∙ sym (whole-is lo (lo + u) (whole 0 v b))
+  -- a window, and a second one w ticks later that begins no later than the tick after it
+  pub whole-join : (u w v : ℕ) → w ≤ u + 1 → u ≤ w + v → whole 0 (w + v) b t ≡ (whole 0 u b t && whole 0 v b (t + w))
+  whole-join u w v p q =
+      simp whole-release (wholeRelease-join (ever false) b t u w v false p q (λ z. absurd (false≢true z), λ r. r .is))
 
 pub whole-moved : (lo v : ℕ) (b : ℕ → Bool) (t : ℕ) → whole 0 v (λ i. b (i + lo)) t ≡ whole lo (lo + v) b t
 whole-moved lo v b t = whole-release 0 v (λ i. b (i + lo)) t ∙ wholeRelease-moved lo v (ever false) b t ∙ sym (whole-release lo (lo + v) b t)

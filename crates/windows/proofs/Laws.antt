@@ -10,9 +10,9 @@ use Rattle.lists.proofs.Tests.{lt-or-le, same-test, and-iff, or-iff}
 use Rattle.mltl.specs.Mltl.{eventually, until}
 use Rattle.mltl.specs.Known.{whole, wholeRelease}
 use Rattle.mltl.proofs.Readings.{someTick-iff, everyTick-iff}
-use Rattle.mltl.proofs.Operators.{ever, eventually-at, eventually-eventually, eventually-double, until-now, until-past, until-join, until-split, until-moved}
+use Rattle.mltl.proofs.Operators.{ever, eventually-at, eventually-now, eventually-past, eventually-join, until-now, until-past, until-join, until-split, until-moved}
 use Rattle.mltl.proofs.KnownColumns.{until-uncut}
-use Rattle.mltl.proofs.Whole.{wholeRelease-now, wholeRelease-clear, wholeRelease-join, wholeRelease-split, wholeRelease-moved, whole-now, whole-clear, whole-double, whole-split, whole-moved}
+use Rattle.mltl.proofs.Whole.{wholeRelease-now, wholeRelease-clear, wholeRelease-join, wholeRelease-split, wholeRelease-moved, whole-now, whole-clear, whole-join, whole-moved}
 use Rattle.windows.specs.Windows.{all, any}
 
 -- a column that is clear from n on
@@ -20,12 +20,12 @@ abbrev pub Ends : ℕ → (ℕ → Bool) → Type 0
 Ends n f = (t : ℕ) → n ≤ t → f t ≡ false
 
 -- ---- the laws
--- of an operator of one operand, by the number n of ticks and its interval: two windows of w ticks joined are one of 2 w
+-- of an operator of one operand, by the number n of ticks and its interval: two windows of u + 1 ticks joined, of which the second begins no later than the
+-- tick after the first, are one window
 pub record Unary (W : ℕ → ℕ → ℕ → (ℕ → Bool) → ℕ → Bool) (join : Bool → Bool → Bool) : Type 0 where
   pub now : (n : ℕ) (f : ℕ → Bool) (t : ℕ) → t < n → W n 0 0 f t ≡ f t
   pub ends : (n v : ℕ) (f : ℕ → Bool) → Ends n f → Ends n (W n 0 v f)
-  pub double : (n w : ℕ) (f : ℕ → Bool) (t : ℕ) → 0 < w → join (W n 0 (w - 1) f t) (W n 0 (w - 1) f (t + w)) ≡ W n 0 (w + w - 1) f t
-  pub split : (n u v : ℕ) (f : ℕ → Bool) → W n 0 u (W n 0 v f) ≡ W n 0 (u + v) f
+  pub joined : (n u by : ℕ) (f : ℕ → Bool) (t : ℕ) → by ≤ u + 1 → join (W n 0 u f t) (W n 0 u f (t + by)) ≡ W n 0 (by + u) f t
   pub moved : (n lo v : ℕ) (f : ℕ → Bool) → Ends n f → (t : ℕ) → W n 0 v (λ i. f (i + lo)) t ≡ W n lo (lo + v) f t
 
 -- of one of two operands: Q, all or any, of the left one's w ticks tells how the second window counts
@@ -85,9 +85,6 @@ module _ (f : ℕ → Bool) (t : ℕ) where
       (λ r. record { at = r .at; late = omega arith; early = omega arith; is = r .is }))
 
 -- ---- F
-pub eventually-past : (n lo hi : ℕ) (a : ℕ → Bool) (t : ℕ) → n ≤ t + lo → eventually n lo hi a t ≡ false
-eventually-past n lo hi a t h = eventually-at n lo hi a t ∙ until-past n lo hi (ever true) a t h
-
 -- the right operand is clear past n: no interval has to be cut there
 until-moved-ends : (n lo v : ℕ) (a b : ℕ → Bool) → Ends n b → (t : ℕ) → until n 0 v (λ i. a (i + lo)) (λ i. b (i + lo)) t ≡ until n lo (lo + v) a b t
 until-moved-ends n lo v a b z t =
@@ -97,10 +94,9 @@ until-moved-ends n lo v a b z t =
 pub eventually-laws : Unary eventually _||_
 eventually-laws =
     record {
-      now = λ n f t h. eventually-at n 0 0 f t ∙ until-now n (ever true) f t h;
+      now = eventually-now;
       ends = λ n v f z t k. eventually-past n 0 v f t (omega arith);
-      double = λ n w f t p. sym (eventually-double n w f t p) ∙ ap (λ (v : ℕ). eventually n 0 v f t) (let e : 2 * w - 1 ≡ w + w - 1 = omega arith in e);
-      split = λ n u v f. eventually-eventually n 0 u 0 v f (omega arith) (omega arith);
+      joined = λ n u by f t p. sym (eventually-join n u by u f t p (omega arith));
       moved = λ n lo v f z t.
           eventually-at n 0 v (λ i. f (i + lo)) t ∙ until-moved-ends n lo v (ever true) f z t ∙ sym (eventually-at n lo (lo + v) f t);
     }
@@ -111,8 +107,7 @@ whole-laws =
     record {
       now = λ n f t h. whole-now f t;
       ends = λ n v f z t k. whole-clear f t 0 v (omega arith) (z (t + 0) (omega arith));
-      double = λ n w f t p. sym (whole-double f t w p) ∙ ap (λ (v : ℕ). whole 0 v f t) (let e : 2 * w - 1 ≡ w + w - 1 = omega arith in e);
-      split = λ n u v f. sym (subst (λ (w : ℕ). whole 0 (w + v) f ≡ whole 0 w (whole 0 v f)) (zero-add u) (whole-split 0 u v f));
+      joined = λ n u by f t p. sym (whole-join f t u by u p (omega arith));
       moved = λ n lo v f z t. whole-moved lo v f t;
     }
 

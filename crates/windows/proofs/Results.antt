@@ -13,6 +13,7 @@ use Rattle.lists.proofs.Tests.{or-left, or-right}
 use Rattle.mltl.specs.Mltl.{eventually, opposite}
 use Rattle.mltl.specs.Known.{whole}
 use Rattle.interval.specs.Parts.{badInterval}
+use Rattle.interval.proofs.Laws.{interval-fits as within}
 use Rattle.column.specs.Column.{Turned, flipped}
 use Rattle.windows.specs.Windows.{span, someLater, allLater, wholeLater, misplaced, untilLater, Three}
 
@@ -29,7 +30,7 @@ turned xs ys e q = q ∙ ap (λ (b : Bool). pick b xs ys) e
 -- ---- the tests
 module _ {lo hi : ℕ} where
   pub interval-is : badInterval lo hi ≡ false → (lo ≤ hi) × (hi ≤ 4095)
-  interval-is e = (ltb-false hi lo (or-left (ltb hi lo) (ltb 4095 hi) e), ltb-false 4095 hi (or-right (ltb hi lo) (ltb 4095 hi) e))
+  interval-is e = within lo hi e
 
   pub interval-fits : lo ≤ hi → hi ≤ 4095 → badInterval lo hi ≡ false
   interval-fits a b = rw (le-ltb hi lo a, le-ltb 4095 hi b)
@@ -80,6 +81,15 @@ module _ {lo hi d e : ℕ} {xs : List ℕ} where
       turned ys (untilLater d e lo hi ys) (ap (λ (n : ℕ). badInterval lo hi || misplaced d e n) l ∙ fits i h) q
 
 -- ---- what a fit call leaves
+module _ (lo hi : ℕ) (fit : badInterval lo hi ≡ false) {xs ys : List ℕ} where
+  pub some-leaves : Turned (eventually (span xs) lo hi (bitAt xs)) xs ys → ys ≡ pick (badInterval lo hi) xs (someLater lo hi xs)
+  unfolding someLater
+  some-leaves r = turns xs (someLater lo hi xs) fit (r .is)
+
+  pub whole-leaves : Turned (whole lo hi (bitAt xs)) xs ys → ys ≡ pick (badInterval lo hi) xs (wholeLater lo hi xs)
+  unfolding wholeLater
+  whole-leaves r = turns xs (wholeLater lo hi xs) fit (r .is)
+
 module _ {lo hi : ℕ} (a : lo ≤ hi) (b : hi ≤ 4095) where
   pub some-turned : {xs ys : List ℕ} → ys ≡ pick (badInterval lo hi) xs (someLater lo hi xs) → Turned (eventually (span xs) lo hi (bitAt xs)) xs ys
   unfolding someLater

@@ -19,17 +19,20 @@ use Rattle.lists.proofs.Columns.{bitAt-past, bitAt-pack, length-pack, pack-is, 
 use Rattle.mltl.specs.Mltl.{eventually, until, opposite}
 use Rattle.mltl.specs.Known.{whole}
 use Rattle.mltl.proofs.Readings.{until-by}
-use Rattle.mltl.proofs.Operators.{ever, eventually-at}
-use Rattle.interval.specs.Parts.{parts, splitting}
+use Rattle.mltl.proofs.Operators.{ever, eventually-at, eventually-past}
+use Rattle.interval.specs.Parts.{parts, splitting, badInterval}
+use Rattle.interval.specs.Doubling.{doubling}
+use Rattle.interval.specs.declared.Doubling.{Doubling}
 use Rattle.interval.specs.declared.Splitting.{Splitting}
-use Rattle.interval.proofs.Laws.{total, parts-total, parts-12}
+use Rattle.interval.proofs.Laws.{total, parts-total, parts-12, interval-fits}
+use Rattle.interval.proofs.Doublings.{Overlapping, overlapping}
 use Rattle.column.specs.Column.{Turned, flipped}
 use Rattle.moves.specs.Moves.{moved}
 use Rattle.column.proofs.Words.{mask}
 use Rattle.column.proofs.Registers.{bitAt-pack-all}
 use Rattle.windows.specs.Windows.{span, someLater, allLater, wholeLater}
 use Rattle.windows.specs.Code.Steps.{widthOf}
-use Rattle.windows.proofs.Laws.{Unary, twice, eventually-past, eventually-laws, whole-laws}
+use Rattle.windows.proofs.Laws.{Unary, twice, eventually-laws, whole-laws}
 
 -- ---- what was turned
 module _ {f : ℕ → Bool} {xs ys : List ℕ} (r : Turned f xs ys) where
@@ -48,21 +51,18 @@ module _ {W : ℕ → ℕ → ℕ → (ℕ → Bool) → ℕ → Bool} {join : B
   pub window-start : ((w : ℕ) → getD xs w 0 < 2 ^ 64) → Turned (W (span xs) 0 (2 ^ 0 - 1) (bitAt xs)) xs xs
   window-start h = record { is = pack-is xs (length xs) _ refl h (λ t l. sym (laws .now (span xs) (bitAt xs) t l)) }
 
+  -- joined with itself moved down; a window of 2 ^ j bits by as many
+  pub window-joined : (u by : ℕ) {ys zs : List ℕ} → by ≤ u + 1 → Turned (W (span xs) 0 u (bitAt xs)) xs ys
+      → Turned (λ t. join (bitAt ys t) (bitAt ys (t + by))) ys zs → Turned (W (span xs) 0 (by + u) (bitAt xs)) xs zs
+  window-joined u by {ys} h p q =
+      let own : (t : ℕ) → bitAt ys t ≡ W (span xs) 0 u (bitAt xs) t = turned-bit p (laws .ends (span xs) u (bitAt xs) (bitAt-past xs)) in
+      turned-then _ (turned-length p) q λ t l. ap₂ join (own t) (own (t + by)) ∙ laws .joined (span xs) u by (bitAt xs) t h
+
   pub window-twice : (j : ℕ) {ys zs : List ℕ} → j < 64 → Turned (W (span xs) 0 (2 ^ j - 1) (bitAt xs)) xs ys
       → Turned (λ t. join (bitAt ys t) (bitAt ys (t + 1 * 2 ^ j % 2 ^ 64))) ys zs → Turned (W (span xs) 0 (2 ^ (j + 1) - 1) (bitAt xs)) xs zs
-  window-twice j {ys} h p q =
-      let own : (t : ℕ) → bitAt ys t ≡ W (span xs) 0 (2 ^ j - 1) (bitAt xs) t = turned-bit p (laws .ends (span xs) (2 ^ j - 1) (bitAt xs) (bitAt-past xs)) in
-      turned-then _ (turned-length p) q λ t l.
-      ap (λ (b : ℕ). join (bitAt ys t) (bitAt ys (t + b))) (mask j h) ∙ ap₂ join (own t) (own (t + 2 ^ j))
-      ∙ laws .double (span xs) (2 ^ j) (bitAt xs) t (pow-pos j) ∙ ap (λ (w : ℕ). W (span xs) 0 (w - 1) (bitAt xs) t) (twice j)
-
-  -- one part more
-  pub window-more : (u v : ℕ) {ys zs : List ℕ} → Turned (W (span xs) 0 v (bitAt xs)) xs ys → Turned (W (span ys) 0 u (bitAt ys)) ys zs
-      → Turned (W (span xs) 0 (u + v) (bitAt xs)) xs zs
-  window-more u v {ys} p q =
-      let own : bitAt ys ≡ W (span xs) 0 v (bitAt xs) = fun-ext (turned-bit p (laws .ends (span xs) v (bitAt xs) (bitAt-past xs))) in
-      turned-then _ (turned-length p) q λ t l.
-      ap₂ (λ (n : ℕ) (f : ℕ → Bool). W (64 * n) 0 u f t) (turned-length p) own ∙ ap (λ (f : ℕ → Bool). f t) (laws .split (span xs) u v (bitAt xs))
+  window-twice j h p q =
+      let e : 2 ^ j + (2 ^ j - 1) ≡ 2 ^ (j + 1) - 1 = omega (arith, twice j, pow-pos j) in
+      rw e at (window-joined (2 ^ j - 1) (2 ^ j) (omega (arith, pow-pos j)) p (rw (mask j h) at q))
 
   -- a window that begins later
   window-later : (lo hi u : ℕ) {ys zs : List ℕ} → lo ≤ hi → u ≡ hi - lo → Turned (moved lo xs) xs ys → Turned (W (span ys) 0 u (bitAt ys)) ys zs
@@ -73,15 +73,21 @@ module _ {W : ℕ → ℕ → ℕ → (ℕ → Bool) → ℕ → Bool} {join : B
       ap₂ (λ (n : ℕ) (f : ℕ → Bool). W (64 * n) 0 u f t) (turned-length p) own ∙ laws .moved (span xs) lo u (bitAt xs) (bitAt-past xs) t
       ∙ ap (λ (v : ℕ). W (span xs) lo v (bitAt xs) t) (omega arith)
 
-pub some-is : (lo hi u : ℕ) {xs ys zs : List ℕ} → lo ≤ hi → u ≡ hi - lo → Turned (moved lo xs) xs ys → Turned (eventually (span ys) 0 u (bitAt ys)) ys zs
-    → zs ≡ someLater lo hi xs
-unfolding someLater
-some-is lo hi u {xs} h e p q = window-later eventually-laws {xs = xs} lo hi u h e p q .is
+-- by what `interval::double` answers: moved down by lo, doubled and, with a leftover, joined once more
+module _ {W : ℕ → ℕ → ℕ → (ℕ → Bool) → ℕ → Bool} {join : Bool → Bool → Bool} (laws : Unary W join) (lo hi : ℕ) {d : Doubling} (fit : badInterval lo hi ≡ false)
+    (e : d ≡ doubling lo hi) {xs ys zs : List ℕ} (p : Turned (moved lo xs) xs ys) (q : Turned (W (span ys) 0 (2 ^ d .exponent - 1) (bitAt ys)) ys zs) where
+  o : Overlapping (hi - lo) d
+  o = overlapping lo hi fit e
 
-pub whole-is : (lo hi u : ℕ) {xs ys zs : List ℕ} → lo ≤ hi → u ≡ hi - lo → Turned (moved lo xs) xs ys → Turned (whole 0 u (bitAt ys)) ys zs
-    → zs ≡ wholeLater lo hi xs
-unfolding wholeLater
-whole-is lo hi u {xs} h e p q = window-later whole-laws {xs = xs} lo hi u h e p q .is
+  pub with-leftover : {us : List ℕ} → Turned (λ t. join (bitAt zs t) (bitAt zs (t + d .leftover))) zs us → Turned (W (span xs) lo hi (bitAt xs)) xs us
+  with-leftover r =
+      window-later laws lo hi _ (interval-fits lo hi fit .0) (o .whole) p (window-joined laws (2 ^ d .exponent - 1) (d .leftover) (o .near) q r)
+
+  pub without-leftover : d .leftover ≤ 0 → Turned (W (span xs) lo hi (bitAt xs)) xs zs
+  without-leftover z = window-later laws lo hi (2 ^ d .exponent - 1) (interval-fits lo hi fit .0) (omega (arith, o .whole)) p q
+
+pub exponent-small : (lo hi : ℕ) {d : Doubling} → badInterval lo hi ≡ false → d ≡ doubling lo hi → d .exponent < 64
+exponent-small lo hi fit e = omega (arith, overlapping lo hi fit e .small)
 
 -- ---- sums of parts
 sum-append : (a b : List ℕ) → sum (a ++ b) ≡ sum a + sum b

@@ -1,4 +1,5 @@
-// F, G, U and R on registers, columns of bits on words of 64: windows of 2 ^ k bits by doubling, widened part by part, and begun later.
+// F, G, U and R on registers, columns of bits on words of 64: windows of 2 ^ k bits by doubling, those of F and G widened by what is left over, those of U
+// and R part by part, and begun later.
 ghost use mathlib.Core.Path.{_≡_};
 ghost use mathlib.Core.Bool.{_||_};
 ghost use Prim.Native.Nat.{ℕ, _+_, _-_, _^_, _≤_, _<_};
@@ -11,7 +12,7 @@ ghost use Rattle.interval.specs.Parts.{badInterval};
 ghost use Rattle.column.specs.Column.{register, flipped};
 ghost use Rattle.moves.specs.Moves.{moved};
 ghost use Rattle.windows.specs.Windows.{someLater, allLater, wholeLater, third, misplaced, all, any, untilLater, releaseLater, wholeReleaseLater, Three};
-ghost use Rattle.windows.specs.Code.Steps.{widthOf, Eventually, Whole, Two, Within, byParts};
+ghost use Rattle.windows.specs.Code.Steps.{Eventually, Whole, Two, Within, byParts};
 use limits::MAX_PARTS;
 
 // ---- F and G: one register, the whole slice
@@ -26,17 +27,6 @@ fn some_within(s: &mut [u64], k: usize)
     }
 }
 
-// The windows are widened by 2 ^ k - 1 bits for each of the first `count` parts k.
-fn widen(s: &mut [u64], ks: [u8; MAX_PARTS], count: usize)
-    requires { ⌜ (count ≤ maxParts) × ((i : ℕ) → i < count → getD ks i 0 < 64) ⌝ }
-    ensures { λ _. ⌜ Eventually 0 (widthOf count ks) (now (s .entry)) (now (s .exit)) ⌝ }
-{
-    for i in 0..count {
-        let k = ks[i] as usize;
-        some_within(s, k);
-    }
-}
-
 // F: bit t becomes whether one of the bits from t + lo to t + hi is set. Nothing changes where the interval is refused.
 pub fn some_later(s: &mut [u64], lo: u16, hi: u16)
     ensures { λ _. ⌜ now (s .exit) ≡ pick (badInterval lo hi) (now (s .entry)) (someLater lo hi (now (s .entry))) ⌝ }
@@ -44,11 +34,14 @@ pub fn some_later(s: &mut [u64], lo: u16, hi: u16)
     if interval::bad_interval(lo, hi) {
         return;
     }
-    let cut = interval::split(lo, hi);
-    let ks = cut.parts;
-    let count = cut.count;
+    let cut = interval::double(lo, hi);
+    let k = cut.exponent as usize;
+    let by = cut.leftover as usize;
     moves::move_down(s, lo as usize);
-    widen(s, ks, count);
+    some_within(s, k);
+    if by > 0 {
+        moves::join_moved(s, by);
+    }
 }
 
 // G: bit t becomes whether all of the bits from t + lo to t + hi that lie below n are set. Nothing changes where the interval is refused.
@@ -75,17 +68,6 @@ fn whole_within(s: &mut [u64], k: usize)
     }
 }
 
-// The windows are widened by 2 ^ k - 1 bits for each of the first `count` parts k.
-fn whole_parts(s: &mut [u64], ks: [u8; MAX_PARTS], count: usize)
-    requires { ⌜ (count ≤ maxParts) × ((i : ℕ) → i < count → getD ks i 0 < 64) ⌝ }
-    ensures { λ _. ⌜ Whole 0 (widthOf count ks) (now (s .entry)) (now (s .exit)) ⌝ }
-{
-    for i in 0..count {
-        let k = ks[i] as usize;
-        whole_within(s, k);
-    }
-}
-
 // Bit t becomes whether all of the bits from t + lo to t + hi are set. Nothing changes where the interval is refused.
 pub fn whole_later(s: &mut [u64], lo: u16, hi: u16)
     ensures { λ _. ⌜ now (s .exit) ≡ pick (badInterval lo hi) (now (s .entry)) (wholeLater lo hi (now (s .entry))) ⌝ }
@@ -93,11 +75,14 @@ pub fn whole_later(s: &mut [u64], lo: u16, hi: u16)
     if interval::bad_interval(lo, hi) {
         return;
     }
-    let cut = interval::split(lo, hi);
-    let ks = cut.parts;
-    let count = cut.count;
+    let cut = interval::double(lo, hi);
+    let k = cut.exponent as usize;
+    let by = cut.leftover as usize;
     moves::move_down(s, lo as usize);
-    whole_parts(s, ks, count);
+    whole_within(s, k);
+    if by > 0 {
+        moves::meet_moved(s, by);
+    }
 }
 
 // ---- U and R: the right operand in the first register of a slice, the left one in the second, d words in

@@ -1,0 +1,23 @@
+-- The shorter splitting, for F and G: an interval's length as a power of two and what is left over (document 000's footnote, A7).
+use Prim.Native.Nat.{ℕ, _+_, _-_, _^_}
+use lib.Dec.{eqb}
+use Rattle.refusals.specs.Numbers.{INTERVAL}
+use Rattle.lists.specs.Choice.{pick}
+use Rattle.interval.specs.Parts.{top, badInterval}
+use Rattle.interval.specs.declared.Doubling.{Doubling}
+
+-- of an interval with hi - lo = v, whose length is m = v + 1: 2 ^ top v is the largest power of two w ≤ m
+-- the leftover, m - w
+unfoldable pub leftover : ℕ → ℕ
+leftover v = (v + 1) - 2 ^ top v
+
+-- the count of the moves: a doubling for each power of two up to w and, with a leftover, one move more
+unfoldable pub moveCount : ℕ → ℕ
+moveCount v = pick (eqb (leftover v) 0) (top v) (top v + 1)
+
+-- the answer for [lo, hi]: the exponent of w, the leftover and the count; or the number of the refusal and zeros
+unfoldable pub doubling : ℕ → ℕ → Doubling
+doubling lo hi =
+    pick (badInterval lo hi)
+    (record { number = INTERVAL; exponent = 0; leftover = 0; count = 0 })
+    (record { number = 0; exponent = top (hi - lo); leftover = leftover (hi - lo); count = moveCount (hi - lo) })
