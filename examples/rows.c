@@ -1,4 +1,4 @@
-/* Prints document 01's rows worked by hand, as the library computes them; examples/rows.txt holds what they should be. */
+/* Prints the rows of documents 01 and 02 worked by hand, as the library computes them; examples/rows.txt holds what they should be. */
 #include <inttypes.h>
 #include <stdio.h>
 #include <string.h>
@@ -60,6 +60,14 @@ static void splits(uint16_t v)
     printf("\n");
 }
 
+static void moves(uint16_t v)
+{
+    uint64_t answer = juntreak_moves(0, v);
+
+    printf("v %u: b %u leftover %u, %u moves\n", (unsigned)v, (unsigned)JUNTREAK_MOVES_EXPONENT(answer),
+           (unsigned)JUNTREAK_MOVES_LEFTOVER(answer), (unsigned)JUNTREAK_MOVES_COUNT(answer));
+}
+
 static void told(const char *call, uint64_t answer, uint32_t kept)
 {
     uint32_t i;
@@ -87,6 +95,9 @@ int main(void)
     splits(13);
     splits(4084);
     splits(JUNTREAK_MAX_INTERVAL);
+    moves(5);
+    moves(6);
+    moves(JUNTREAK_MAX_INTERVAL);
     watch(table, 7, 1, 3, P, 0);
     if (juntreak_open(table, 0, session) != JUNTREAK_OK)
         return 1;

@@ -110,6 +110,12 @@ enum {
 /* of juntreak_split: the number, and the count of parts */
 #define JUNTREAK_SPLIT_NUMBER(answer) ((uint32_t)(answer) % 256)
 #define JUNTREAK_SPLIT_COUNT(answer) ((uint32_t)(answer) / 256)
+/* of juntreak_moves: the number, the exponent, the count of moves, and the
+ * leftover */
+#define JUNTREAK_MOVES_NUMBER(answer) ((uint32_t)((answer) % 256))
+#define JUNTREAK_MOVES_EXPONENT(answer) ((uint32_t)((uint64_t)(answer) >> 8) % 256)
+#define JUNTREAK_MOVES_COUNT(answer) ((uint32_t)((uint64_t)(answer) >> 16) % 65536)
+#define JUNTREAK_MOVES_LEFTOVER(answer) ((uint32_t)((uint64_t)(answer) >> 32))
 /* of juntreak_early: the number, and the value */
 #define JUNTREAK_EARLY_NUMBER(answer) ((uint32_t)(answer) % 256)
 #define JUNTREAK_EARLY_VALUE(answer) ((uint32_t)(answer) / 256)
@@ -222,6 +228,17 @@ uint32_t juntreak_delay(const uint8_t table[JUNTREAK_TABLE_BYTES],
  * first, and the other places are zero. */
 uint32_t juntreak_split(uint16_t lo, uint16_t hi,
                         uint8_t parts[JUNTREAK_MAX_PARTS]);
+
+/* The shorter splitting of the interval [lo, hi], by which F and G are run; U
+ * and R are run by the parts of juntreak_split. For the length m = hi - lo + 1
+ * the exponent is the largest b with 2^b <= m, the leftover is m - 2^b, and
+ * the count is that of the moves: b doublings and, with a leftover, one more
+ * joining of the result with itself moved by the leftover. No list of moves in
+ * which each joins two earlier results, either one moved by any amount, makes
+ * a window of that length with fewer.
+ * Answers number + 256 * exponent + 65536 * count + 2^32 * leftover, numbers
+ * 0 and 6; the others are 0 if refused. */
+uint64_t juntreak_moves(uint16_t lo, uint16_t hi);
 
 /* The verdicts of a rule on a whole trace of n states, n at most 5120; bit s
  * of a state is signal s. x is the length of scratch, at least 5280; o that

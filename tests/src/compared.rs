@@ -1,6 +1,7 @@
 //! Calls of the library on sessions beside the model's, every byte and word compared, and what these calls are made with.
 use crate::header::limits::{HISTORY_WORDS, SCRATCH_WORDS};
 use crate::header::places::SEEN_AT;
+use crate::header::whole_words;
 use crate::library::{self, NarrowBytes, SessionBytes, TableBytes};
 use crate::model::{self, Delay, Width};
 use crate::random::{bytes, Random};
@@ -73,6 +74,14 @@ pub fn widen(r: &mut Random, narrow: &NarrowBytes, session: &mut SessionBytes) -
 /// The first verdicts of out.
 pub fn bits(out: &[u64], count: u32) -> Vec<bool> {
     (0..count as usize).map(|i| out[i / 64] >> (i % 64) & 1 == 1).collect()
+}
+
+/// The first n bits as words, and then the words of `rest` that they do not reach.
+pub fn packed(bits: &[bool], rest: &[u64]) -> Vec<u64> {
+    let mut out = rest.to_vec();
+    out[..whole_words(bits.len())].fill(0);
+    bits.iter().enumerate().for_each(|(t, bit)| out[t / 64] += u64::from(*bit) * 2u64.pow(t as u32 % 64));
+    out
 }
 
 /// The bytes of a session on a table, sound or not, with any rule number and any count.

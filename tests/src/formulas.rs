@@ -129,6 +129,11 @@ pub fn windows() -> Vec<Named> {
     vec![("F[0,1000] p", finally(0, 1000)), ("F[0,1023] p", finally(0, 1023)), ("F[0,4095] p", finally(0, 4095))]
 }
 
+/// The window whose first splitting has the most parts.
+pub fn most_parts() -> Named {
+    ("F[0,4084] p", finally(0, 4084))
+}
+
 /// A rule of the mail box: what is accepted is relayed within 600 ticks.
 pub fn mail() -> Named {
     let mut f = Formula::default();

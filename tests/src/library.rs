@@ -16,6 +16,7 @@ mod raw {
         pub fn juntreak_write(table: *const TableBytes, out: *mut u8, n: usize) -> u32;
         pub fn juntreak_delay(table: *const TableBytes, rule: u32) -> u32;
         pub fn juntreak_split(lo: u16, hi: u16, parts: *mut Parts) -> u32;
+        pub fn juntreak_moves(lo: u16, hi: u16) -> u64;
         pub fn juntreak_verdicts(table: *const TableBytes, rule: u32, states: *const u32, n: usize, scratch: *mut u64, x: usize, out: *mut u64, o: usize) -> u32;
         pub fn juntreak_early(table: *const TableBytes, rule: u32, states: *const u32, n: usize, tick: usize, scratch: *mut u64, x: usize) -> u32;
         pub fn juntreak_simplify(table: *mut TableBytes) -> u32;
@@ -60,6 +61,11 @@ pub fn delay(table: &TableBytes, rule: u32) -> (u32, u32) {
 pub fn split(lo: u16, hi: u16, parts: &mut Parts) -> (u32, usize) {
     let r = unsafe { raw::juntreak_split(lo, hi, parts) };
     (r % 256, (r / 256) as usize)
+}
+
+/// The whole answer: number + 256 × exponent + 65536 × count + 2^32 × leftover.
+pub fn moves(lo: u16, hi: u16) -> u64 {
+    unsafe { raw::juntreak_moves(lo, hi) }
 }
 
 /// The number.

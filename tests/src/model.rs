@@ -343,6 +343,26 @@ pub fn parts(mut v: u32) -> Vec<u8> {
     out
 }
 
+/// The shorter splitting of the length v + 1 (A7).
+#[derive(Debug, PartialEq)]
+pub struct Doubling {
+    /// Of the largest power of two that is at most the length.
+    pub exponent: u32,
+    pub leftover: u32,
+    /// Of the moves.
+    pub count: u32,
+}
+
+pub fn doubling(v: u32) -> Doubling {
+    let (mut power, mut exponent) = (1, 0);
+    while 2 * power <= v + 1 {
+        power *= 2;
+        exponent += 1;
+    }
+    let leftover = v + 1 - power;
+    Doubling { exponent, leftover, count: exponent + u32::from(leftover > 0) }
+}
+
 /// A law of simplifying that fits the node at a place by itself and its operands.
 pub fn law_at(t: &Table, place: usize) -> Option<&'static str> {
     let n = &t.nodes[place];

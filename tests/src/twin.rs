@@ -133,10 +133,14 @@ fn parts(lo: u16, hi: u16) -> impl Iterator<Item = u32> {
 
 fn eventually(s: &mut [u64], lo: u16, hi: u16) {
     move_down(s, lo as usize);
-    for k in parts(lo, hi) {
-        for j in 0..k {
-            pass(s, 1 << j, |a, b| a | b);
-        }
+    let m = (hi - lo) as usize + 1;
+    let k = m.ilog2();
+    for j in 0..k {
+        pass(s, 1 << j, |a, b| a | b);
+    }
+    let leftover = m - (1 << k);
+    if leftover > 0 {
+        pass(s, leftover, |a, b| a | b);
     }
 }
 

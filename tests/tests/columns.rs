@@ -2,7 +2,7 @@
 use juntreak_tests::bench::clock::in_turns;
 use juntreak_tests::bench::columns::{formula, DELAYS, FEEDS, SIGNALS};
 use juntreak_tests::bench::runs::{dense, feeds, Before, Proved};
-use juntreak_tests::compared::{bits, close, feed};
+use juntreak_tests::compared::{bits, close, feed, packed};
 use juntreak_tests::formulas::Formula;
 use juntreak_tests::header::limits::{CLOSE_WORDS, HISTORY_WORDS, MAX_BLOCK, MAX_SIGNAL, MAX_TRACE, SCRATCH_WORDS, SESSION_BYTES};
 use juntreak_tests::header::refusals::OK;
@@ -32,14 +32,6 @@ fn opened(t: &Table) -> SessionBytes {
 
 fn signal_of(states: &[u32], signal: u8) -> Vec<bool> {
     states.iter().map(|state| state / 2u32.pow(signal.into()) % 2 == 1).collect()
-}
-
-/// The first n bits as words, and then the words of `rest` that they do not reach.
-fn packed(bits: &[bool], rest: &[u64]) -> Vec<u64> {
-    let mut out = rest.to_vec();
-    out[..whole_words(bits.len())].fill(0);
-    bits.iter().enumerate().for_each(|(t, bit)| out[t / 64] += u64::from(*bit) * 2u64.pow(t as u32 % 64));
-    out
 }
 
 /// The verdicts of a signal on a whole trace are its column.

@@ -3,11 +3,9 @@ use mathlib.Core.Path.{_≡_, _∙_}
 use mathlib.Core.Bool.{false}
 use Prim.Native.Nat.{ℕ, _+_, _-_, _^_, _≤_}
 use native.Mathlib.Omega.{arith}
-use lib.Dec.{eqb}
 use lib.Pow.{pow-pos}
-use Rattle.lists.specs.Choice.{pick}
 use Rattle.interval.specs.Parts.{top, left, badInterval}
-use Rattle.interval.specs.Doubling.{leftover, moveCount, doubling}
+use Rattle.interval.specs.Doubling.{leftover, movesFor, moveCount, doubling}
 use Rattle.interval.specs.declared.Doubling.{Doubling}
 use Rattle.interval.proofs.Laws.{interval-fits, top-largest, top-12}
 
@@ -16,7 +14,7 @@ pub leftover-is : (v : ℕ) → leftover v ≡ left v
 unfolding leftover left
 leftover-is v = omega (arith, pow-pos (top v))
 
-pub doubling-is : (lo hi : ℕ) {k l n : ℕ} → badInterval lo hi ≡ false → k ≡ top (hi - lo) → l ≡ left (hi - lo) → n ≡ pick (eqb l 0) k (k + 1)
+pub doubling-is : (lo hi : ℕ) {k l n : ℕ} → badInterval lo hi ≡ false → k ≡ top (hi - lo) → l ≡ left (hi - lo) → n ≡ movesFor k l
     → _≡_ {A = Doubling} (record { number = 0; exponent = k; leftover = l; count = n }) (doubling lo hi)
 unfolding doubling moveCount
 doubling-is lo hi e ek el en = simp (e, leftover-is (hi - lo), en, ek, el)

@@ -1,14 +1,14 @@
 -- Lists of moves: each result by its offsets, how many offsets there can be, and the list that has the fewest moves. Assumes nothing.
-use Prim.Native.Nat.{ℕ, zero, suc, _+_, _-_, _*_, _^_, _≤_, _<_}
+use Prim.Native.Nat.{ℕ, zero, suc, _+_, _-_, _^_, _≤_, _<_}
 use native.Mathlib.Nat.{two-pow-succ, add-zero}
 use native.Mathlib.Numerals.{add-one}
 use native.Mathlib.Omega.{arith}
 use mathlib.Core.Path.{_≡_, refl, sym, ap, ap₂, subst, _∙_}
 use mathlib.Core.Logic.{⊎-elim}
-use mathlib.Core.Bool.{Bool, true, false, not, _&&_, _||_, or-false, false≢true, true≢false}
+use mathlib.Core.Bool.{Bool, true, false, not, _&&_, _||_, or-false, false≢true}
 use mathlib.Core.List.{List, [], _∷_, _++_, map, append-nil}
-use borrow.Author.Tests.{eq-eqb, ne-eqb, eqb-true, eqb-false, lt-ltb, le-ltb, le-leb, leb-true, ltb-true}
-use lib.Dec.{ltb, leb, eqb}
+use borrow.Author.Tests.{eq-eqb, eqb-true, eqb-false, lt-ltb, le-ltb, le-leb, leb-true}
+use lib.Dec.{leb, eqb}
 use lib.ListN.{length, getD, length-append, length-map}
 use lib.Pow.{pow-mono, pow-pos}
 use Rattle.lists.specs.Bits.{below}
@@ -21,7 +21,7 @@ use Rattle.mltl.specs.Mltl.{eventually}
 use Rattle.mltl.proofs.Readings.{eventually-iff}
 use Rattle.mltl.proofs.Operators.{eventually-now, eventually-past, eventually-join}
 use Rattle.interval.specs.Parts.{top}
-use Rattle.interval.specs.Doubling.{leftover, moveCount}
+use Rattle.interval.specs.Doubling.{leftover, movesFor, moveCount}
 use Rattle.interval.specs.Joining.{Shift, down, up, Move, Joins, result, results, made, columnMoved, columns, Computes, Offset, offsetMoved, offsetSets, offsets, isOffset, inLength, EndsAt, joinedBy, movesOf, Fewest}
 use Rattle.interval.proofs.Laws.{pow-le, top-largest}
 
@@ -168,7 +168,7 @@ module _ (v : ℕ) where
   single x i j p q = omega (arith, eqb-true (x .ahead) (x .back + i) p, eqb-true (x .ahead) (x .back + j) q)
 
   pub least : (ms : List Move) → EndsAt (v + 1) ms → moveCount v ≤ length ms
-  unfolding leftover moveCount
+  unfolding leftover movesFor moveCount
   least ms e = go (eqb (leftover v) 0) refl
     where
       enough : v + 1 ≤ 2 ^ length ms
@@ -225,7 +225,7 @@ module _ (n : ℕ) (a : ℕ → Bool) where
           rw e at (window-joined (2 ^ top v - 1) (leftover v) (ticks (λ j. joinedBy (2 ^ j)) (top v)) (omega (arith, l .high, l .low)) (doubled (top v)))
 
 moves-count : (v : ℕ) → length (movesOf v) ≡ moveCount v
-unfolding moveCount
+unfolding movesFor moveCount
 moves-count v =
     length-append (ticks (λ j. joinedBy (2 ^ j)) (top v)) _ ∙ ap (λ (k : ℕ). k + length (pick (eqb (leftover v) 0) [] (joinedBy (leftover v) ∷ []))) (length-ticks (λ j. joinedBy (2 ^ j)) (top v))
     ∙ go (eqb (leftover v) 0)
@@ -242,6 +242,11 @@ fewest v =
       high = omega (arith, l .high, two-pow-succ (top v), ap (λ (k : ℕ). 2 ^ k) (add-one (top v)));
       counted = moves-count v;
       makes = λ n a. moves-make n a v;
+      whole = computes-ends v (movesOf v) (record {
+        enough = 0;
+        is = λ n h a t g. moves-make n a v t g ∙ ap (λ (u : ℕ). eventually n 0 u a t) (let e : v ≡ v + 1 - 1 = omega arith in e);
+      });
       ends = computes-ends v;
       least = least v;
+      least-made = λ ms c. least v ms (computes-ends v ms c);
     }

@@ -11,9 +11,12 @@ use Rattle.interval.specs.declared.Doubling.{Doubling}
 unfoldable pub leftover : ℕ → ℕ
 leftover v = (v + 1) - 2 ^ top v
 
--- the count of the moves: a doubling for each power of two up to w and, with a leftover, one move more
+-- how many moves there are: k doublings and, with a leftover, one move more
+unfoldable pub movesFor : ℕ → ℕ → ℕ
+movesFor k left = pick (eqb left 0) k (k + 1)
+
 unfoldable pub moveCount : ℕ → ℕ
-moveCount v = pick (eqb (leftover v) 0) (top v) (top v + 1)
+moveCount v = movesFor (top v) (leftover v)
 
 -- the answer for [lo, hi]: the exponent of w, the leftover and the count; or the number of the refusal and zeros
 unfoldable pub doubling : ℕ → ℕ → Doubling

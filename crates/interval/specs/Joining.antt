@@ -1,7 +1,7 @@
--- Lists of moves, by which the window of F over an interval is made of its operand (A7).
--- A list starts from the operand. Each of its moves joins two earlier results, either one moved by any amount, and makes one result more. Results are
+-- Lists of moves, by which F's window is made of its operand, and the fewest that make it (A7).
+-- A list starts from the operand. Each of its moves joins two earlier results, either one moved by any amount, and so makes one result more. Results are
 -- counted from the last one back: 0 is the last, and behind all others stands the operand. Where no result stands, one that is clear is taken.
-use Prim.Native.Nat.{ℕ, zero, suc, _+_, _-_, _^_, _≤_, _<_}
+use Prim.Native.Nat.{ℕ, _+_, _-_, _^_, _≤_, _<_}
 use mathlib.Core.Path.{_≡_}
 use mathlib.Core.Bool.{Bool, true, false, not, _&&_, _||_}
 use mathlib.Core.List.{List, [], _∷_, _++_, map}
@@ -18,13 +18,14 @@ use Rattle.interval.specs.Doubling.{leftover, moveCount}
 pub data Shift : Type 0 where
   down up : ℕ → Shift
 
+-- which two results are joined, and how each is moved before
 pub record Move : Type 0 where
   pub first : ℕ
   pub first-by : Shift
   pub second : ℕ
   pub second-by : Shift
 
--- ---- what a list of moves makes, of results of any kind
+-- ---- what a list of moves makes, whatever its results are: what moves and joins them, and what is clear
 pub record Joins (A : Type 0) : Type 0 where
   pub clear : A
   pub moved : Shift → A → A
@@ -34,7 +35,7 @@ module _ {A : Type 0} (k : Joins A) where
   abbrev pub result : Move → List A → A
   result m rs = k .join (k .moved (m .first-by) (getD rs (m .first) (k .clear))) (k .moved (m .second-by) (getD rs (m .second) (k .clear)))
 
-  -- the results, those that stood before among them, the last one first
+  -- the results after the moves, the last one first; before them stand those of rs
   unfoldable pub results : List A → List Move → List A
   results rs [] = rs
   results rs (m ∷ ms) = results (result m rs ∷ rs) ms
@@ -94,12 +95,14 @@ movesOf v = ticks (λ j. joinedBy (2 ^ j)) (top v) ++ pick (eqb (leftover v) 0) 
 
 -- ---- what is promised of it
 pub record Fewest (v : ℕ) : Type 0 where
-  -- top v is the exponent of the largest power of two that is at most the length
+  -- 2 ^ top v is the largest power of two that is at most the length
   pub low : 2 ^ top v ≤ v + 1
   pub high : v + 1 < 2 ^ (top v + 1)
-  -- as many moves as the call answers; they make F[0, v] of every operand on every column
+  -- the list has as many moves as the call answers, makes F[0, v] of every operand on every column, and ends at the whole length
   pub counted : length (movesOf v) ≡ moveCount v
   pub makes : (n : ℕ) (a : ℕ → Bool) (t : ℕ) → t < n → made (columns n) a (movesOf v) t ≡ eventually n 0 v a t
-  -- every other list that makes it ends at the length, and every list that ends there has at least as many
+  pub whole : EndsAt (v + 1) (movesOf v)
+  -- every other list that makes it ends there too, and every list that ends there has at least as many moves
   pub ends : (ms : List Move) → Computes (v + 1) ms → EndsAt (v + 1) ms
   pub least : (ms : List Move) → EndsAt (v + 1) ms → moveCount v ≤ length ms
+  pub least-made : (ms : List Move) → Computes (v + 1) ms → moveCount v ≤ length ms

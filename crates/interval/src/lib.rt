@@ -2,13 +2,11 @@
 // left over.
 ghost use mathlib.Core.Path.{_≡_};
 ghost use Prim.Native.Nat.{_+_, _≤_};
-ghost use lib.Dec.{eqb};
 ghost use lib.ListN.{length};
 ghost use lib.Seq.{sets};
 ghost use Rattle.limits.specs.Limits.{maxInterval, maxParts};
-ghost use Rattle.lists.specs.Choice.{pick};
 ghost use Rattle.interval.specs.Parts.{top, left, parts, badInterval, splitting};
-ghost use Rattle.interval.specs.Doubling.{doubling};
+ghost use Rattle.interval.specs.Doubling.{movesFor, doubling};
 use limits::MAX_INTERVAL;
 use limits::MAX_PARTS;
 
@@ -94,7 +92,7 @@ pub fn split(lo: u16, hi: u16) -> Splitting
 // How many moves there are: k doublings and, with a leftover, one move more.
 fn moves_for(k: u32, leftover: u32) -> u32
     requires { ⌜ k ≤ maxParts ⌝ }
-    ensures { λ r. ⌜ (r ≡ pick (eqb leftover 0) k (k + 1)) × (r ≤ k + 1) ⌝ }
+    ensures { λ r. ⌜ (r ≡ movesFor k leftover) × (r ≤ maxParts + 1) ⌝ }
 {
     if leftover == 0 {
         return k;

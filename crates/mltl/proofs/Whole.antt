@@ -1,6 +1,6 @@
 -- The operators over a whole interval, ticks not yet seen included: `whole` and `wholeRelease` are G and R on a trace that is long enough, so that their
 -- laws are those of U turned round. Assumes nothing.
-use Prim.Native.Nat.{ℕ, _+_, _-_, _*_, _≤_, _<_, min}
+use Prim.Native.Nat.{ℕ, _+_, _-_, _≤_, _<_, min}
 use native.Mathlib.Omega.{arith}
 use mathlib.Core.Path.{_≡_, refl, sym, ap, ap₂, _∙_, fun-ext, subst}
 use mathlib.Core.Logic.{⊎-elim, _↔_, Iff·rfl}

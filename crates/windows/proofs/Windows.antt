@@ -1,4 +1,4 @@
--- F, G and `whole` on words: windows of 2 ^ k bits by doubling, widened part by part, and begun later. Assumes nothing.
+-- F, G and `whole` on words: windows of 2 ^ k bits by doubling, joined with themselves by what is left over, and begun later. Assumes nothing.
 use mathlib.Core.Path.{_≡_, refl, sym, ap, ap₂, _∙_, fun-ext}
 use mathlib.Core.Logic.{⊎-elim}
 use mathlib.Core.Bool.{Bool, true, false, not, _&&_}
@@ -17,7 +17,6 @@ use Rattle.lists.specs.Sequence.{sum, padded}
 use Rattle.lists.proofs.Tests.{lt-or-le}
 use Rattle.lists.proofs.Columns.{bitAt-past, bitAt-pack, length-pack, pack-is, pack-ext}
 use Rattle.mltl.specs.Mltl.{eventually, until, opposite}
-use Rattle.mltl.specs.Known.{whole}
 use Rattle.mltl.proofs.Readings.{until-by}
 use Rattle.mltl.proofs.Operators.{ever, eventually-at, eventually-past}
 use Rattle.interval.specs.Parts.{parts, splitting, badInterval}
@@ -30,9 +29,9 @@ use Rattle.column.specs.Column.{Turned, flipped}
 use Rattle.moves.specs.Moves.{moved}
 use Rattle.column.proofs.Words.{mask}
 use Rattle.column.proofs.Registers.{bitAt-pack-all}
-use Rattle.windows.specs.Windows.{span, someLater, allLater, wholeLater}
+use Rattle.windows.specs.Windows.{span, allLater}
 use Rattle.windows.specs.Code.Steps.{widthOf}
-use Rattle.windows.proofs.Laws.{Unary, twice, eventually-laws, whole-laws}
+use Rattle.windows.proofs.Laws.{Unary, twice}
 
 -- ---- what was turned
 module _ {f : ℕ → Bool} {xs ys : List ℕ} (r : Turned f xs ys) where

@@ -58,7 +58,7 @@ fn row(name: String, t: &Table, states: &[u32]) -> Vec<String> {
 pub fn run() {
     let states = dense(FEEDS * MAX_BLOCK);
     let mut rows: Vec<_> = [2, 4, 8, 16, 32, 64].map(|n| row(format!("{n} nodes"), &formulas::of_nodes(n), &states)).to_vec();
-    rows.extend(formulas::all().into_iter().map(|(name, t)| row(name.into(), &t, &states)));
+    rows.extend(formulas::all().into_iter().chain([formulas::most_parts()]).map(|(name, t)| row(name.into(), &t, &states)));
     let head = ["Formula", "feed", "as it was", "ratio", "whole trace", "as it was", "ratio"];
     table("A feed of 1,024 states and a call on a whole trace of 5,120, in ns, beside the library as it was:", &head, &rows);
     columns::run::<Proved, Earlier>();

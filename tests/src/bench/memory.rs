@@ -82,7 +82,7 @@ fn stacks_of(t: &Table) -> [Option<usize>; 7] {
 
 /// The largest stack of each function, over the benchmarks' formulas, one of 64 nodes, and windows of the length that splits into most parts.
 fn stacks() -> Vec<Vec<String>> {
-    let tables = formulas::all().into_iter().map(|f| f.1).chain([formulas::of_nodes(MAX_NODES as u8), formulas::finally(0, 4084), formulas::until(0, 4084)]);
+    let tables = formulas::all().into_iter().map(|f| f.1).chain([formulas::of_nodes(MAX_NODES as u8), formulas::most_parts().1, formulas::until(0, 4084)]);
     let all: Vec<_> = tables.map(|t| stacks_of(&t)).collect();
     let names = ["juntreak_read", "juntreak_simplify", "juntreak_open", "juntreak_feed", "juntreak_close", "juntreak_verdicts", "juntreak_early"];
     let largest = |i: usize| all.iter().map(|x| x[i]).max().unwrap();
