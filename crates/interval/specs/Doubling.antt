@@ -6,7 +6,7 @@ use Rattle.lists.specs.Choice.{pick}
 use Rattle.interval.specs.Parts.{top, badInterval}
 use Rattle.interval.specs.declared.Doubling.{Doubling}
 
--- of an interval with hi - lo = v, whose length is m = v + 1: 2 ^ top v is the largest power of two w ≤ m
+-- ---- of an interval with hi - lo = v: its length is m = v + 1, and the largest power of two w ≤ m is 2 ^ top v
 -- the leftover, m - w
 unfoldable pub leftover : ℕ → ℕ
 leftover v = (v + 1) - 2 ^ top v

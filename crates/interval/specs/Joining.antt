@@ -35,7 +35,7 @@ module _ {A : Type 0} (k : Joins A) where
   abbrev pub result : Move → List A → A
   result m rs = k .join (k .moved (m .first-by) (getD rs (m .first) (k .clear))) (k .moved (m .second-by) (getD rs (m .second) (k .clear)))
 
-  -- the results after the moves, the last one first; before them stand those of rs
+  -- the results after the moves, the last one first, and behind them those that stood before, rs
   unfoldable pub results : List A → List Move → List A
   results rs [] = rs
   results rs (m ∷ ms) = results (result m rs ∷ rs) ms
