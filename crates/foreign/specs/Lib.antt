@@ -2,5 +2,7 @@
 pub mod Demand
 -- early answers
 pub mod Early
+-- one bad reading
+pub mod Reach
 -- written books
 pub mod Written

@@ -20,11 +20,13 @@ use Rattle.simplify.specs.Promise.{Promised}
 use Rattle.verdict.specs.Verdict.{Answered}
 use Rattle.early.specs.declared.Decision.{Decision}
 use Rattle.early.specs.Early.{toldBy, earlyTold, earlyScratch, Decides}
+use Rattle.reach.specs.declared.Range.{Range}
+use Rattle.reach.specs.Reach.{Reached, reachedBy, reached}
 use Rattle.session.specs.declared.Session.{Session}
 use Rattle.session.specs.declared.Answer.{Answer}
 use Rattle.session.specs.Session.{Effect, unfitBy, unfit, feedNumberBy, feedingBy, feeding, closeNumberBy, closingBy}
 use Rattle.session.proofs.Answers.{feed-fits, close-fits, unfit-short}
-use Rattle.juntreak.specs.Answers.{leaves, earlyAnswer, sessionAnswer, Simplifies, counted, Called}
+use Rattle.juntreak.specs.Answers.{leaves, earlyAnswer, reachAnswer, rangeAfter, sessionAnswer, Simplifies, counted, Called}
 
 -- ---- what a call leaves in a buffer
 pub renews : {number : ℕ} {new b : List ℕ} (old : List ℕ) → number ≡ 0 → b ≡ new → b ≡ leaves number new old
@@ -49,6 +51,12 @@ told-by {rule = rule} {states = states} {tick = tick} {x = x} e p q = (
   q ∙ ap earlyAnswer (p .tells) ∙ ap (λ (z : Table). earlyAnswer (earlyTold z rule states tick x)) e,
   p .clears ∙ ap (λ (z : Table). earlyScratch z rule states tick x) e,
 )
+
+-- ---- the range of a bad reading
+pub reached-by : {t u : Table} (rule n s : ℕ) (r : Range) {a : ℕ} {w′ : List ℕ} (w : List ℕ) → t ≡ u → reachedBy r ≡ reached t rule n s → w′ ≡ rangeAfter (reachedBy r) w
+    → a ≡ reachAnswer (reachedBy r) → (a ≡ reachAnswer (reached u rule n s)) × (w′ ≡ rangeAfter (reached u rule n s) w)
+reached-by rule n s r w e p q a =
+    let k = p ∙ ap (λ (z : Table). reached z rule n s) e in (a ∙ ap reachAnswer k, q ∙ ap (λ (z : Reached). rangeAfter z w) k)
 
 -- ---- calls
 pub called-is : {e : Effect} {r : Answer} {b b′ h x o : List ℕ} → _≡_ {A = Effect} (record { answer = r; history = h; scratch = x; out = o }) e

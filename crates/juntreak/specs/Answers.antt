@@ -1,7 +1,7 @@
 -- The answers of the C interface as one number each, and what its calls leave in the bytes of tables and sessions.
 use Prim.Native.Nat.{ℕ, _+_, _*_, min}
 use mathlib.Core.Path.{_≡_}
-use mathlib.Core.List.{List}
+use mathlib.Core.List.{List, [], _∷_}
 use lib.Dec.{eqb}
 use Rattle.lists.specs.Choice.{pick}
 use Rattle.interval.specs.declared.Splitting.{Splitting}
@@ -16,6 +16,7 @@ use Rattle.simplify.specs.Promise.{PromisedBy}
 use Rattle.mltl.specs.Mltl.{Formula, delay}
 use Rattle.mltl.specs.Known.{Value, no, undecided, yes}
 use Rattle.early.specs.Early.{Told, refused, value}
+use Rattle.reach.specs.Reach.{Reached, refused as not-reached, empty, ticks}
 use Rattle.session.specs.declared.Answer.{Answer}
 use Rattle.session.specs.declared.Opening.{Opening}
 use Rattle.session.specs.Session.{Effect}
@@ -62,6 +63,18 @@ valueNumber undecided = 2
 abbrev pub earlyAnswer : Told → ℕ
 earlyAnswer (refused number) = number
 earlyAnswer (value v) = 256 * valueNumber v
+
+-- the number of a refusal or, above it, whether there is a range
+abbrev pub reachAnswer : Reached → ℕ
+reachAnswer (not-reached number) = number
+reachAnswer empty = 0
+reachAnswer (ticks first last) = 256
+
+-- the two words after a call: the first and the last tick where there is a range, and otherwise as they were
+abbrev pub rangeAfter : Reached → List ℕ → List ℕ
+rangeAfter (not-reached number) words = words
+rangeAfter empty words = words
+rangeAfter (ticks first last) words = first ∷ last ∷ []
 
 -- the bytes of a table after the simplifier: its answer is free but for what is promised of it, by a measure of how many states a verdict waits for
 pub record SimplifiesBy (wait : Formula → ℕ) (before : List ℕ) (number : ℕ) (after : List ℕ) : Type 0 where

@@ -11,17 +11,19 @@ ghost use Rattle.book.specs.Writing.{writing, writtenInto};
 ghost use Rattle.text.specs.Typing.{typed};
 ghost use Rattle.verdict.specs.Verdict.{Answered};
 ghost use Rattle.early.specs.Early.{toldBy, earlyTold, earlyScratch};
+ghost use Rattle.reach.specs.Reach.{reachedBy, reached};
 ghost use Rattle.session.specs.Session.{opening, feeding, closingBy, closing, closingOld};
 ghost use Rattle.narrow.specs.Narrow.{wideOf, widening};
 ghost use Rattle.flat.specs.Flat.{tableFrom, written};
 ghost use Rattle.flat.specs.Sessions.{sessionFrom, sessionWritten, renewed, narrowFrom};
-ghost use Rattle.juntreak.specs.Answers.{leaves, textAnswer, writeAnswer, delayAnswer, splitAnswer, movesAnswer, earlyAnswer, Simplifies, stored, counted, Called};
+ghost use Rattle.juntreak.specs.Answers.{leaves, textAnswer, writeAnswer, delayAnswer, splitAnswer, movesAnswer, earlyAnswer, reachAnswer, rangeAfter, Simplifies, stored, counted, Called};
 use book::Reading;
 use early::Decision;
 use limits::MAX_PARTS;
 use limits::NARROW_BYTES;
 use limits::SESSION_BYTES;
 use limits::TABLE_BYTES;
+use reach::Range;
 use session::Answer;
 use session::Session;
 use table::Table;
@@ -192,6 +194,47 @@ pub extern "C" fn juntreak_early(
 {
     let t = flat::read_table(table);
     early_code(early::decide(t, rule as usize, states, tick, scratch))
+}
+
+// The first and the last tick, where there is a range.
+fn put_range(r: Range, range: &mut [u64; 2])
+    ensures { λ _. ⌜ now (range .exit) ≡ rangeAfter (reachedBy r) (now (range .entry)) ⌝ }
+{
+    match r {
+        Range::Refused(_) => {}
+        Range::Empty => {}
+        Range::Ticks(first, last) => {
+            let ends = [first, last];
+            *range = ends;
+        }
+    }
+}
+
+fn range_code(r: Range) -> u32
+    ensures { λ n. ⌜ n ≡ reachAnswer (reachedBy r) ⌝ }
+{
+    match r {
+        Range::Refused(number) => number as u32,
+        Range::Empty => 0,
+        Range::Ticks(_, _) => 256,
+    }
+}
+
+// The ticks of a mission of so many states at which the verdict of a rule may depend on the state of `tick`.
+#[no_mangle]
+pub extern "C" fn juntreak_reach(
+    table: &[u8; TABLE_BYTES],
+    rule: u32,
+    length: u64,
+    tick: u64,
+    range: &mut [u64; 2],
+) -> u32
+    ensures { λ r. ⌜ (r ≡ reachAnswer (reached (tableFrom (now (table .entry))) rule length tick)) × (now (range .exit) ≡ rangeAfter (reached (tableFrom (now (table .entry))) rule length tick) (now (range .entry))) ⌝ }
+{
+    let t = flat::read_table(table);
+    let r = reach::reach(t, rule as usize, length, tick);
+    put_range(r, range);
+    range_code(r)
 }
 
 // The table simplified, in its place.

@@ -16,5 +16,7 @@ pub mod ThirdDemand
 pub mod SecondClose
 -- what is known while a session runs
 pub mod Early
+-- one bad reading
+pub mod Reach
 -- the rule that a session watches is the formula of its line
 pub mod Typed

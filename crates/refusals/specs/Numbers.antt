@@ -84,3 +84,7 @@ SEEN = 24
 -- a tick that is not below the states given
 abbrev pub TICK : ℕ
 TICK = 31
+
+-- a tick that is not below the mission's length
+abbrev pub BEYOND : ℕ
+BEYOND = 35

@@ -47,3 +47,5 @@ pub const BUFFER: u8 = 23;
 pub const SEEN: u8 = 24;
 
 pub const TICK: u8 = 31;
+
+pub const BEYOND: u8 = 35;
