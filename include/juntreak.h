@@ -80,6 +80,7 @@ enum {
     JUNTREAK_BUFFER = 23,   /* history, scratch or out too short */
     JUNTREAK_SEEN = 24,     /* seen + k above 18446744073709551615 */
     JUNTREAK_TICK = 31,     /* tick not below the states given */
+    JUNTREAK_BEYOND = 35,   /* tick not below the mission's length */
     /* Typed rules, answered with a place in the text, from 0. */
     JUNTREAK_SYNTAX = 32,   /* a byte, or the text's end, that no line can have there */
     JUNTREAK_DEEP = 33,     /* an opening bracket that is fit there, but the 33rd open one */
@@ -119,6 +120,9 @@ enum {
 /* of juntreak_early: the number, and the value */
 #define JUNTREAK_EARLY_NUMBER(answer) ((uint32_t)(answer) % 256)
 #define JUNTREAK_EARLY_VALUE(answer) ((uint32_t)(answer) / 256)
+/* of juntreak_reach: the number, and 1 if there is a range */
+#define JUNTREAK_REACH_NUMBER(answer) ((uint32_t)(answer) % 256)
+#define JUNTREAK_REACH_RANGE(answer) ((uint32_t)(answer) / 256)
 /* of juntreak_feed and of both closes: the number, and the count of verdicts */
 #define JUNTREAK_CALL_NUMBER(answer) ((uint32_t)(answer))
 #define JUNTREAK_CALL_COUNT(answer) ((uint32_t)((uint64_t)(answer) >> 32))
@@ -268,6 +272,24 @@ uint32_t juntreak_verdicts(const uint8_t table[JUNTREAK_TABLE_BYTES],
 uint32_t juntreak_early(const uint8_t table[JUNTREAK_TABLE_BYTES],
                         uint32_t rule, const uint32_t *states, size_t n,
                         size_t tick, uint64_t *scratch, size_t x);
+
+/* How far one bad reading reaches: at which ticks of a mission of so many
+ * states, its length, the verdict of a rule may change with the state of tick.
+ * With D the rule's delay and near its near distance, two missions of this
+ * length that differ in the state of tick alone have the same verdict at every
+ * tick outside tick - D to tick - near. The near distance: signal, true, false:
+ * 0. Not: its operand's. And, or: the smaller. F, G: lo + the operand's. U, R:
+ * lo + the smaller. It is never above the delay.
+ * Answers number + 256 if there is a range, numbers 0, 25, 21, 35. With a range,
+ * range[0] and range[1] are its first and last tick, cut to the ticks of the
+ * mission; otherwise nothing is written: where the answer is 0, no tick of the
+ * mission lies there. Not every verdict of the range has to change. The call
+ * reads the table that it is given: juntreak_simplify keeps every verdict and
+ * raises no delay, but may change the near distance either way, and both
+ * ranges hold. */
+uint32_t juntreak_reach(const uint8_t table[JUNTREAK_TABLE_BYTES],
+                        uint32_t rule, uint64_t length, uint64_t tick,
+                        uint64_t range[2]);
 
 /* Simplifies a table in place. Answers the number: 0, or 25 with the table
  * unchanged. If it is 0, every verdict of every rule on every trace is as

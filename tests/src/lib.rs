@@ -1,5 +1,5 @@
 //! The proved library as Rust sees it (`library`), the limits and refusal numbers of its C header (`header`), models written from the
-//! documents alone (`model`, `known`, `typed`, `viable`, `written`, `program`), calls on sessions beside the model's (`compared`), what the
+//! documents alone (`model`, `known`, `reached`, `typed`, `viable`, `written`, `program`), calls on sessions beside the model's (`compared`), what the
 //! program rules tells (`message`), random input (`random`), where programs are (`place`) and how they are run (`spawn`). For the benchmarks
 //! (`bench`): the formulas (`formulas`), and what the library and the program are compared with (`naive`, `queue`, `twin`, `plain`,
 //! `plain_text`).
@@ -18,6 +18,7 @@ pub mod plain_text;
 pub mod program;
 pub mod queue;
 pub mod random;
+pub mod reached;
 pub mod spawn;
 pub mod twin;
 pub mod typed;

@@ -19,6 +19,7 @@ mod raw {
         pub fn juntreak_moves(lo: u16, hi: u16) -> u64;
         pub fn juntreak_verdicts(table: *const TableBytes, rule: u32, states: *const u32, n: usize, scratch: *mut u64, x: usize, out: *mut u64, o: usize) -> u32;
         pub fn juntreak_early(table: *const TableBytes, rule: u32, states: *const u32, n: usize, tick: usize, scratch: *mut u64, x: usize) -> u32;
+        pub fn juntreak_reach(table: *const TableBytes, rule: u32, length: u64, tick: u64, range: *mut [u64; 2]) -> u32;
         pub fn juntreak_simplify(table: *mut TableBytes) -> u32;
         pub fn juntreak_open(table: *const TableBytes, rule: u32, session: *mut SessionBytes) -> u32;
         pub fn juntreak_widen(narrow: *const NarrowBytes, session: *mut SessionBytes) -> u32;
@@ -77,6 +78,11 @@ pub fn verdicts(table: &TableBytes, rule: u32, states: &[u32], scratch: &mut [u6
 pub fn early(table: &TableBytes, rule: u32, states: &[u32], tick: usize, scratch: &mut [u64]) -> (u32, u32) {
     let r = unsafe { raw::juntreak_early(table, rule, states.as_ptr(), states.len(), tick, scratch.as_mut_ptr(), scratch.len()) };
     (r % 256, r / 256)
+}
+
+/// The whole answer: number + 256 if there is a range.
+pub fn reach(table: &TableBytes, rule: u32, length: u64, tick: u64, range: &mut [u64; 2]) -> u32 {
+    unsafe { raw::juntreak_reach(table, rule, length, tick, range) }
 }
 
 /// The number.

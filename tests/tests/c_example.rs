@@ -64,6 +64,12 @@ fn a_session_under_the_old_delay_is_ended() {
 }
 
 #[test]
+fn a_bad_reading_reaches_three_verdicts() {
+    let ranges = "tick 0 misread: no verdict changes\ntick 2 misread: strike 0 to 1\ntick 5 misread: strike 2 to 4\ntick 8 misread: refused with 35\n";
+    assert_eq!(printed("reach"), format!("{ranges}verdicts as read:   11111000\nwith tick 5 cleared: 11000000\n"));
+}
+
+#[test]
 fn the_rows_are_those_worked_by_hand() {
     assert_eq!(printed("rows"), include_str!("../../examples/rows.txt"));
 }

@@ -7,7 +7,7 @@ use std::collections::{BTreeMap, BTreeSet};
 type Constants = BTreeMap<String, u64>;
 
 /// Every constant of the header.
-const VALUES: [(&str, u64); 54] = [
+const VALUES: [(&str, u64); 55] = [
     ("RECORD_BYTES", 12),
     ("BOOK_BYTES", 3060),
     ("WRITTEN_BYTES", 876),
@@ -56,6 +56,7 @@ const VALUES: [(&str, u64); 54] = [
     ("BUFFER", 23),
     ("SEEN", 24),
     ("TICK", 31),
+    ("BEYOND", 35),
     ("SYNTAX", 32),
     ("DEEP", 33),
     ("OUTPUT", 34),

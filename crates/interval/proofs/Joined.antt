@@ -39,9 +39,9 @@ abbrev amount : Shift → ℕ
 amount (down k) = k
 amount (up k) = k
 
-abbrev pub reach : List Move → ℕ
-reach [] = 0
-reach (m ∷ ms) = (amount (m .first-by) + amount (m .second-by)) + reach ms
+abbrev pub extent : List Move → ℕ
+extent [] = 0
+extent (m ∷ ms) = (amount (m .first-by) + amount (m .second-by)) + extent ms
 
 module _ (n : ℕ) (a : ℕ → Bool) where
   abbrev Read : ℕ → (ℕ → Bool) → List Offset → Type 0
@@ -67,12 +67,12 @@ module _ (n : ℕ) (a : ℕ → Bool) where
   alike-more m w cs os h (suc i) t l g = h i t (omega arith) (omega arith)
 
   alike-all : (ms : List Move) (w : ℕ) (cs : List (ℕ → Bool)) (os : List (List Offset)) → Alike w cs os
-      → Alike (w + reach ms) (results (columns n) cs ms) (results offsetSets os ms)
+      → Alike (w + extent ms) (results (columns n) cs ms) (results offsetSets os ms)
   unfolding results
   alike-all [] w cs os h i t l g = h i t (omega arith) (omega arith)
   alike-all (m ∷ ms) w cs os h i t l g = alike-all ms _ _ _ (alike-more m w cs os h) i t (omega arith) (omega arith)
 
-  pub by-offsets : (ms : List Move) (t : ℕ) → reach ms ≤ t → t + reach ms < n → made (columns n) a ms t ≡ some (readAt a t) (offsets ms)
+  pub by-offsets : (ms : List Move) (t : ℕ) → extent ms ≤ t → t + extent ms < n → made (columns n) a ms t ≡ some (readAt a t) (offsets ms)
   unfolding some
   by-offsets ms t l g = alike-all ms 0 (a ∷ []) ((record { ahead = 0; back = 0 } ∷ []) ∷ []) start 0 t (omega arith) (omega arith)
     where
@@ -88,10 +88,10 @@ not-back p false h e = refl
 module _ (v : ℕ) (ms : List Move) (c : Computes (v + 1) ms) where
   -- a tick far enough from both ends of a column that is long enough
   abbrev tick : ℕ
-  tick = reach ms + 1
+  tick = extent ms + 1
 
   abbrev long : ℕ
-  long = c .enough + tick + reach ms + v + 1
+  long = c .enough + tick + extent ms + v + 1
 
   agree : (a : ℕ → Bool) → some (readAt a tick) (offsets ms) ≡ eventually long 0 v a tick
   agree a =

@@ -21,7 +21,7 @@ use Rattle.column.proofs.Sweeps.{swept-to, swept-right, swept-next, swept-whole
 use Rattle.column.proofs.Parts.{part-turned, laid-length}
 use Rattle.pair.specs.Pair.{IntoFirst}
 use Rattle.pair.proofs.Pairs.{Into, into-next, into-laid}
-use Rattle.moves.specs.Moves.{moved, joined, met, reached, sustained}
+use Rattle.moves.specs.Moves.{moved, joined, met, bridged, sustained}
 use Rattle.moves.proofs.Words.{or-none, moved-last}
 
 -- a turn less
@@ -48,8 +48,8 @@ module _ (by m : ℕ) {w y : ℕ} {xs ys : List ℕ} (h : w < m) (l : m ≤ leng
 
 -- and of the first of two registers, joined or met with it as the second tells
 module _ (by d m : ℕ) {w y : ℕ} {xs ys : List ℕ} (h : w < m) (fits : (i : ℕ) → getD ys i 0 < 2 ^ 64) (q : WordOf (moved by (register 0 m ys)) w y) where
-  pub reached-next : Into (reached by) d 0 d m w xs ys → Into (reached by) d 0 d m (w + 1) xs (set ys w (bitOr (getD ys w 0) (bitAnd (getD ys (d + w) 0) y)))
-  reached-next r = into-next r h (omega arith) (omega arith) fits (λ a b. or-words a (and-words b (moved-next (r .swept) m by q)))
+  pub bridged-next : Into (bridged by) d 0 d m w xs ys → Into (bridged by) d 0 d m (w + 1) xs (set ys w (bitOr (getD ys w 0) (bitAnd (getD ys (d + w) 0) y)))
+  bridged-next r = into-next r h (omega arith) (omega arith) fits (λ a b. or-words a (and-words b (moved-next (r .swept) m by q)))
 
   pub sustained-next : Into (sustained by) d 0 d m w xs ys → Into (sustained by) d 0 d m (w + 1) xs (set ys w (bitAnd (getD ys w 0) (bitOr (getD ys (d + w) 0) y)))
   sustained-next r = into-next r h (omega arith) (omega arith) fits (λ a b. and-words a (or-words b (moved-next (r .swept) m by q)))
@@ -78,9 +78,9 @@ pub joined-done : (by : ℕ) {m k : ℕ} {xs ys : List ℕ} → m ≡ length xs 
 joined-done by {m} {xs = xs} e fits g r =
     swept-whole (joined by) {w = m} e (stays (moved by (register 0 m xs)) fits (omega arith) (λ t h. register-past m xs (t + by) (omega arith)) r) (omega arith) (omega arith)
 
-pub reached-done : (by d : ℕ) {m k : ℕ} {xs ys : List ℕ} → ((w : ℕ) → getD xs w 0 < 2 ^ 64) → k ≡ m - by / 64 → Into (reached by) d 0 d m k xs ys
-    → IntoFirst (reached by) d xs ys
-reached-done by d {m} {xs = xs} fits g r =
+pub bridged-done : (by d : ℕ) {m k : ℕ} {xs ys : List ℕ} → ((w : ℕ) → getD xs w 0 < 2 ^ 64) → k ≡ m - by / 64 → Into (bridged by) d 0 d m k xs ys
+    → IntoFirst (bridged by) d xs ys
+bridged-done by d {m} {xs = xs} fits g r =
     into-laid r
     (stays (λ t. bitAt (register d m xs) t && moved by (register 0 m xs) t) fits (omega arith)
     (λ t j. ap (λ (b : Bool). bitAt (register d m xs) t && b) (register-past m xs (t + by) (omega arith)) ∙ and-false (bitAt (register d m xs) t)) (r .swept))

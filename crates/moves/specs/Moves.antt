@@ -15,8 +15,8 @@ abbrev pub met : ℕ → List ℕ → ℕ → Bool
 met by c t = bitAt c t && bitAt c (t + by)
 
 -- c joined with itself moved down where d is set: U's windows doubled, where d tells that the left holds up to the second one
-abbrev pub reached : ℕ → List ℕ → List ℕ → ℕ → Bool
-reached by c d t = bitAt c t || bitAt d t && bitAt c (t + by)
+abbrev pub bridged : ℕ → List ℕ → List ℕ → ℕ → Bool
+bridged by c d t = bitAt c t || bitAt d t && bitAt c (t + by)
 
 -- c met with itself moved down where d is clear: R's windows doubled, where d tells that the left holds before the second one
 abbrev pub sustained : ℕ → List ℕ → List ℕ → ℕ → Bool

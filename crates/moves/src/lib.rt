@@ -1,11 +1,11 @@
-// A register's column moved down, alone and with itself. `reach` and `sustain` take two registers in one slice, as crate pair has them; the others take the
+// A register's column moved down, alone and with itself. `bridge` and `sustain` take two registers in one slice, as crate pair has them; the others take the
 // whole slice as one.
 ghost use mathlib.Core.Path.{_≡_};
 ghost use Prim.Native.Nat.{_+_, _-_, _/_, _%_, _≤_, _<_};
 ghost use lib.ListN.{length};
 ghost use Rattle.column.specs.Column.{Turned, WordOf, Swept, register};
 ghost use Rattle.pair.specs.Pair.{room, IntoFirst};
-ghost use Rattle.moves.specs.Moves.{moved, joined, met, reached, sustained};
+ghost use Rattle.moves.specs.Moves.{moved, joined, met, bridged, sustained};
 
 // Word w of a register's column moved down, where both words that it comes from are there; and its last word. The register has the first `words` words.
 fn near_word(s: &[u64], words: usize, by: usize, w: usize) -> u64
@@ -166,8 +166,8 @@ pub fn join_moved(s: &mut [u64], by: usize)
 }
 
 // Bit t of the first register becomes that bit, or bit t of the second and bit t + by of the first.
-pub fn reach(s: &mut [u64], d: usize, by: usize)
-    ensures { λ _. ⌜ IntoFirst (reached by) d (now (s .entry)) (now (s .exit)) ⌝ }
+pub fn bridge(s: &mut [u64], d: usize, by: usize)
+    ensures { λ _. ⌜ IntoFirst (bridged by) d (now (s .entry)) (now (s .exit)) ⌝ }
 {
     let words = pair::room_of(s.len(), d);
     let left = words_left(words, by);

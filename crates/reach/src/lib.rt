@@ -4,7 +4,7 @@ ghost use mathlib.Core.List.{map};
 ghost use Prim.Native.Nat.{_≤_, min};
 ghost use lib.ListN.{getD, take};
 ghost use Rattle.limits.specs.Limits.{maxNodes};
-ghost use Rattle.lists.specs.Choice.{pick, first};
+ghost use Rattle.lists.specs.Choice.{pick};
 ghost use Rattle.mltl.specs.Mltl.{near};
 ghost use Rattle.table.specs.Nodes.{measures, cap};
 ghost use Rattle.reach.specs.Reach.{reachedBy, reached, ticksWithin};

@@ -94,7 +94,7 @@ fn until_within(s: &mut [u64], d: usize, k: usize)
     ensures { λ _. ⌜ Within until all d k (now (s .entry)) (now (s .exit)) ⌝ }
 {
     for j in 0..k {
-        moves::reach(s, d, 1 << j);
+        moves::bridge(s, d, 1 << j);
         moves::meet_moved(&mut s[d..], 1 << j);
     }
 }

@@ -35,11 +35,11 @@ until-within-spec =
     let a = b .before .before .args in
     let m : ℕ = third (a .d) (a .s .now) in
     let long : length (b .loop .s) ≡ length (a .s .now) = b .loop .inv .2 in
-    let longer : length (r .reach .last .0) ≡ length (b .loop .s) = r .reach .kept .0 in
+    let longer : length (r .bridge .last .0) ≡ length (b .loop .s) = r .bridge .kept .0 in
     let e : room (a .d) (b .loop .s) ≡ m = omega arith in
-    let e′ : length (r .reach .last .0) - a .d ≡ m = omega arith in
-    let p = part-op (met _) (a .d) (length (r .reach .last .0) - a .d) m (r .reach .last .0) e′ (omega arith) (w .meet-moved .ensures) in
-    let two = within-twice until-laws (omega arith) (omega arith) (b .loop .j) (omega arith) (b .loop .inv .0) (rw e at (r .reach .ensures)) p in
+    let e′ : length (r .bridge .last .0) - a .d ≡ m = omega arith in
+    let p = part-op (met _) (a .d) (length (r .bridge .last .0) - a .d) m (r .bridge .last .0) e′ (omega arith) (w .meet-moved .ensures) in
+    let two = within-twice until-laws (omega arith) (omega arith) (b .loop .j) (omega arith) (b .loop .inv .0) (rw e at (r .bridge .ensures)) p in
     (two, search needs, two-length two (omega arith) (omega arith)))
     (λ c. c .before .loop .inv .2)
     (λ c. rw (← le-antisymm (c .before .loop .inv .1) (c .loop-test .left)) (c .before .loop .inv .0)))
