@@ -47,7 +47,11 @@ module _ (a b : Formula) (lo hi c d : ℕ) where
   unfolding near
   same-keeps = omega arith
 
-  -- where a part goes that was read sooner, it grows
+  pub F-or-F-keeps : lo ≤ c → near (F lo hi a) ≡ near (or (F lo hi a) (F c d a))
+  unfolding near
+  F-or-F-keeps h = omega arith
+
+  -- where a part goes, it may grow
   pub U-now-grows : near (U 0 0 a b) ≤ near b
   unfolding near
   U-now-grows = omega arith
@@ -60,7 +64,7 @@ module _ (a b : Formula) (lo hi c d : ℕ) where
   unfolding near
   constant-grows e = omega arith
 
-  -- where a constant takes the place of an interval, it falls
+  -- where a constant takes the place of an interval, it may fall
   pub F-false-falls : near (F lo hi (const false)) ≡ near (const false) + lo
   unfolding near
   F-false-falls = omega arith

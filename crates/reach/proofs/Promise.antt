@@ -13,6 +13,7 @@ use Rattle.mltl.proofs.Stable.{delay-waits, one-state}
 use Rattle.table.specs.Nodes.{watchedFormula}
 use Rattle.table.specs.Sound.{isSound}
 use Rattle.table.specs.declared.Table.{Table}
+use Rattle.table.proofs.Soundness.{sound-iff}
 use Rattle.reach.specs.Reach.{Reached, refused, empty, ticks, Among, ticksWithin, reachRows, reachNumber, reached}
 use Rattle.reach.specs.Promise.{Relied}
 use Rattle.reach.proofs.Nears.{near-first}
@@ -77,6 +78,6 @@ module _ (t : Table) (rule n s : ℕ) where
         let z : reachNumber t rule n s ≡ 0 = eqb-true (reachNumber t rule n s) 0 (accepted _ _ _ first last e) in
         let g = reach-fits t rule n s z in
         some-tick (near f) (delay f) first last (near-first t (g .sound) rule) (g .inside) (ltb s (near f)) refl (sym (told t rule n s z) ∙ e);
-    near-first = λ e. near-first t (reach-fits t rule n s e .sound) rule;
+    near-first = λ e. near-first t (sound-iff t .0 e) rule;
     refused-exactly = exactly-refused t rule n s;
   }

@@ -22,7 +22,7 @@ pub record Relied (t : Table) (rule n s : ℕ) : Type 0 where
       → Among (reached t rule n s) i ↔ ((i < n) × InReach (near (watchedFormula t rule)) (delay (watchedFormula t rule)) s i)
   -- where there is a first and a last tick, they are ticks of the mission in this order
   pub some : (first last : ℕ) → reached t rule n s ≡ ticks first last → (first ≤ last) × (last < n)
-  -- the near distance is at most the delay
-  pub near-first : reachNumber t rule n s ≡ 0 → near (watchedFormula t rule) ≤ delay (watchedFormula t rule)
+  -- the near distance of a rule of a sound table is at most its delay
+  pub near-first : isSound t ≡ true → near (watchedFormula t rule) ≤ delay (watchedFormula t rule)
   -- a call is refused exactly where a row fits it
   pub refused-exactly : (¬ (reachNumber t rule n s ≡ 0)) ↔ (someFits (reachRows (isSound t) (t .«rule_count») rule n s) ≡ true)
