@@ -1,5 +1,6 @@
 //! How far one bad reading reaches (A8): what `juntreak_reach` answers, against the model; and, by brute force, that no verdict outside its range
 //! changes with the state of one tick, whatever that state is.
+use juntreak_tests::compared::bits;
 use juntreak_tests::formulas::{temporal, Formula};
 use juntreak_tests::header::limits::{MAX_DELAY, MAX_NODES, MAX_RULES, MAX_SEEN, SCRATCH_WORDS, TABLE_BYTES};
 use juntreak_tests::header::refusals::{ABSENT, BEYOND, OK, UNSOUND};
@@ -212,7 +213,7 @@ fn nothing_outside_changes() {
 fn library_verdicts(bytes: &TableBytes, states: &[u32], scratch: &mut [u64]) -> Vec<bool> {
     let mut out = vec![0; whole_words(states.len())];
     assert_eq!(verdicts(bytes, 0, states, scratch, &mut out), OK);
-    (0..states.len()).map(|i| out[i / 64] >> (i % 64) & 1 == 1).collect()
+    bits(&out, states.len() as u32)
 }
 
 /// All traces of two signals of up to `length` states, each state changed in every way, with the verdicts of the library.
