@@ -17,7 +17,7 @@ use Rattle.lists.proofs.Tests.{or-left, or-right, and-right, lt-or-le}
 use Rattle.table.specs.Nodes.{opOf, usesOf, noTable, delayOver, delays, cap}
 use Rattle.table.specs.declared.Node.{Node}
 use Rattle.table.specs.declared.Table.{Table}
-use Rattle.table.proofs.Delays.{delay-used, delays-chain, capped-over}
+use Rattle.table.proofs.Delays.{delay-used, delays-chain, delay-capped}
 use Rattle.builder.specs.Adding.{operandPast, nodeRowsBy, addNodeRows, withNode, addingNode}
 use Rattle.builder.specs.Built.{Delays}
 use Rattle.builder.proofs.Answers.{long-cap, rows-capped}
@@ -46,7 +46,7 @@ module _ (t : Table) (ds : List ℕ) (d : Delays t ds) where
 
   -- the delay of one more node, capped
   pub delay-over-held : (n : Node) → operandPast (t .«node_count») n ≡ false → cap (delayOver (take 64 ds) n) ≡ cap (delayOver real n)
-  delay-over-held n h = ap cap (same-over (take 64 ds) (map cap real) (t .«node_count») n h held) ∙ capped-over false real n refl refl
+  delay-over-held n h = ap cap (same-over (take 64 ds) (map cap real) (t .«node_count») n h held) ∙ delay-capped false real n refl refl
 
   same-number : (n : Node) → first (nodeRowsBy (t .«node_count») (delayOver (take 64 ds) n) n) ≡ first (nodeRowsBy (t .«node_count») (delayOver real n) n)
   same-number n = go (operandPast (t .«node_count») n) refl

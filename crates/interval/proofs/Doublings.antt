@@ -23,7 +23,7 @@ doubling-is lo hi e ek el en = simp (e, leftover-is (hi - lo), en, ek, el)
 -- length, and the two have no gap between them
 pub record Overlapping (v : ℕ) (d : Doubling) : Type 0 where
   pub small : d .exponent ≤ 12
-  pub near : d .leftover ≤ (2 ^ d .exponent - 1) + 1
+  pub gapless : d .leftover ≤ (2 ^ d .exponent - 1) + 1
   pub whole : d .leftover + (2 ^ d .exponent - 1) ≡ v
 
 pub overlapping : (lo hi : ℕ) {d : Doubling} → badInterval lo hi ≡ false → d ≡ doubling lo hi → Overlapping (hi - lo) d
@@ -36,6 +36,6 @@ overlapping lo hi {d} e q =
     rw s
     (record {
       small = top-12 v (omega arith);
-      near = omega (arith, l .low, l .high, pow-pos (top v));
+      gapless = omega (arith, l .low, l .high, pow-pos (top v));
       whole = omega (arith, l .low, pow-pos (top v));
     })

@@ -1,8 +1,8 @@
 -- The near distance beside the delay, and what the simplifying laws do to it. Assumes nothing.
-use Prim.Native.Nat.{ℕ, _+_, _≤_}
+use Prim.Native.Nat.{ℕ, _+_, _≤_, min}
 use native.Mathlib.Omega.{arith}
 use mathlib.Core.Path.{_≡_, refl}
-use mathlib.Core.Bool.{Bool, true, false}
+use mathlib.Core.Bool.{Bool, true}
 use borrow.Author.Tests.{leb-true}
 use lib.Dec.{leb}
 use Rattle.lists.proofs.Tests.{true-left, true-right}
@@ -28,47 +28,79 @@ near-within (R lo hi a b) h =
     let p = near-within b (true-right (ordered a) _ (true-right (leb lo hi) _ h)) in
     omega (arith, until-right lo hi (delay a) (delay b))
 
--- ---- what the simplifying laws do to it; those of G and R do as those of F and U
-module _ (a b : Formula) (lo hi c d : ℕ) where
-  -- most keep it
-  pub not-not-keeps : near a ≡ near (neg (neg a))
-  unfolding near
-  not-not-keeps = refl
+-- ---- what the simplifying laws do to it, by how each operator makes it of its operands'
+abbrev Pair : (Formula → Formula → Formula) → Type 0
+Pair C = (a b : Formula) → near (C a b) ≡ min (near a) (near b)
 
-  pub F-now-keeps : near a ≡ near (F 0 0 a)
-  unfolding near
-  F-now-keeps = omega arith
+abbrev Later : (ℕ → ℕ → Formula → Formula) → Type 0
+Later T = (lo hi : ℕ) (a : Formula) → near (T lo hi a) ≡ lo + near a
 
-  pub F-F-keeps : near (F (lo + c) (hi + d) a) ≡ near (F lo hi (F c d a))
-  unfolding near
-  F-F-keeps = omega arith
+abbrev Until : (ℕ → ℕ → Formula → Formula → Formula) → Type 0
+Until S = (lo hi : ℕ) (a b : Formula) → near (S lo hi a b) ≡ lo + min (near a) (near b)
 
-  pub same-keeps : near a ≡ near (and a a)
-  unfolding near
-  same-keeps = omega arith
+pub not-not-keeps : (a : Formula) → near a ≡ near (neg (neg a))
+unfolding near
+not-not-keeps a = refl
 
-  pub F-or-F-keeps : lo ≤ c → near (F lo hi a) ≡ near (or (F lo hi a) (F c d a))
-  unfolding near
-  F-or-F-keeps h = omega arith
+-- not of a constant, and any constant for another
+pub constant-keeps : (b c : Bool) → near (const b) ≡ near (neg (const c))
+unfolding near
+constant-keeps b c = refl
 
-  -- where a part goes, it may grow
-  pub U-now-grows : near (U 0 0 a b) ≤ near b
-  unfolding near
-  U-now-grows = omega arith
+zero : (b : Bool) → near (const b) ≡ 0
+unfolding near
+zero b = refl
 
-  pub F-and-F-grows : c ≤ lo → near (and (F lo hi a) (F c d a)) ≤ near (F lo hi a)
-  unfolding near
-  F-and-F-grows h = omega arith
+-- and, or, with their sides exchanged too: of one node twice, and beside a constant, where a formula or a constant stays
+pub exchanged : (C : Formula → Formula → Formula) → Pair C → Pair (λ a b. C b a)
+exchanged C p a b = omega (arith, p b a)
 
-  pub constant-grows : (e : Bool) → near (and a (const e)) ≤ near a
-  unfolding near
-  constant-grows e = omega arith
+module _ (C : Formula → Formula → Formula) (p : Pair C) where
+  pub same-keeps : (a : Formula) → near a ≡ near (C a a)
+  same-keeps a = omega (arith, p a a)
 
-  -- where a constant takes the place of an interval, it may fall
-  pub F-false-falls : near (F lo hi (const false)) ≡ near (const false) + lo
-  unfolding near
-  F-false-falls = omega arith
+  pub constant-grows : (a : Formula) (b : Bool) → near (C a (const b)) ≤ near a
+  constant-grows a b = omega (arith, p a (const b))
 
-  pub U-false-falls : near (const false) ≤ near (U lo hi a (const false))
-  unfolding near
-  U-false-falls = omega arith
+  pub constant-stays : (a : Formula) (b : Bool) → near (const b) ≡ near (C a (const b))
+  constant-stays a b = omega (arith, p a (const b), zero b)
+
+  -- two intervals, one inside the other: the outer one stays, or the inner one
+  module _ (T : ℕ → ℕ → Formula → Formula) (q : Later T) (lo hi c d : ℕ) (h : lo ≤ c) (a : Formula) where
+    pub outer-keeps : near (T lo hi a) ≡ near (C (T lo hi a) (T c d a))
+    outer-keeps = omega (arith, p (T lo hi a) (T c d a), q lo hi a, q c d a)
+
+    pub inner-grows : near (C (T lo hi a) (T c d a)) ≤ near (T c d a)
+    inner-grows = omega (arith, p (T lo hi a) (T c d a), q lo hi a, q c d a)
+
+-- F, G: at [0,0], one after another, and of a constant
+module _ (T : ℕ → ℕ → Formula → Formula) (q : Later T) where
+  pub now-keeps : (a : Formula) → near a ≡ near (T 0 0 a)
+  now-keeps a = omega (arith, q 0 0 a)
+
+  pub twice-keeps : (lo hi c d : ℕ) (a : Formula) → near (T (lo + c) (hi + d) a) ≡ near (T lo hi (T c d a))
+  twice-keeps lo hi c d a = omega (arith, q (lo + c) (hi + d) a, q lo hi (T c d a), q c d a)
+
+  pub constant-falls : (lo hi : ℕ) (b : Bool) → near (const b) + lo ≡ near (T lo hi (const b))
+  constant-falls lo hi b = omega (arith, q lo hi (const b))
+
+-- U, R: at [0,0], and with a constant on the right
+module _ (S : ℕ → ℕ → Formula → Formula → Formula) (q : Until S) where
+  pub right-grows : (a b : Formula) → near (S 0 0 a b) ≤ near b
+  right-grows a b = omega (arith, q 0 0 a b)
+
+  pub right-constant-falls : (lo hi : ℕ) (a : Formula) (b : Bool) → near (const b) + lo ≡ near (S lo hi a (const b))
+  right-constant-falls lo hi a b = omega (arith, q lo hi a (const b), zero b)
+
+-- these are the operators
+pub near-pairs : Pair and × Pair or
+unfolding near
+near-pairs = (λ a b. refl, λ a b. refl)
+
+pub near-later : Later F × Later G
+unfolding near
+near-later = (λ lo hi a. refl, λ lo hi a. refl)
+
+pub near-until : Until U × Until R
+unfolding near
+near-until = (λ lo hi a b. refl, λ lo hi a b. refl)

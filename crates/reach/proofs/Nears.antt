@@ -6,7 +6,7 @@ use mathlib.Core.Bool.{Bool, true, false}
 use mathlib.Core.Logic.{⊎-elim}
 use mathlib.Core.List.{List, [], map}
 use borrow.Author.Tests.{le-leb}
-use lib.ListN.{getD, List·getD-eq-default, List·getD-map}
+use lib.ListN.{getD, List·getD-eq-default}
 use Rattle.lists.specs.Choice.{pick}
 use Rattle.lists.specs.Sequence.{chain}
 use Rattle.lists.proofs.Sequences.{chain-all}
@@ -18,7 +18,7 @@ use Rattle.table.specs.declared.Table.{Table}
 use Rattle.table.specs.declared.Uses.{Uses}
 use Rattle.table.specs.Nodes.{Op, Unknown, Signal, Top, Bottom, Not, And, Or, Finally, Globally, Until, Release, opOf, usesOf, noNode, nodeAt, ruleAt, formulaAs, formulaOver, formulaAt, watchedFormula, measures, Measured, cap}
 use Rattle.table.specs.Sound.{Sound}
-use Rattle.table.proofs.Delays.{measures-chain, measure-at, capped-step}
+use Rattle.table.proofs.Delays.{measures-chain, capped-over, measure-found}
 use Rattle.reach.specs.Code.Steps.{nearAs, nodeNear, nearOver}
 
 -- ---- by the step at a node
@@ -86,9 +86,8 @@ through Globally lo hi a b = omega arith
 through Until lo hi a b = omega arith
 through Release lo hi a b = omega arith
 
-pub capped-over : (ds : List ℕ) (n : Node) {cs : List ℕ} {v : ℕ} → v ≡ cap (nearOver cs n) → cs ≡ map cap ds → v ≡ cap (nearOver ds n)
-capped-over ds n e m =
-    capped-step near nearAs near-measured through ds n e (ap (λ (xs : List ℕ). getD xs (n .left) 0) m) (ap (λ (xs : List ℕ). getD xs (n .right) 0) m)
+pub near-capped : (ds : List ℕ) (n : Node) {cs : List ℕ} {v : ℕ} → v ≡ cap (nearOver cs n) → cs ≡ map cap ds → v ≡ cap (nearOver ds n)
+near-capped = capped-over near nearAs near-measured through
 
 -- ---- beside the delays
 -- an interval that begins no later than it ends makes an ordered formula of ordered ones
@@ -130,5 +129,4 @@ module _ (t : Table) (s : Sound t) where
   pub near-found : (rule : ℕ) {v : ℕ} → rule < t .«rule_count» → v ≡ getD (map cap (measures near (t .nodes))) (ruleAt t rule .watched) 0 → v ≡ near (watchedFormula t rule)
   near-found rule h p =
       let w = s .short (ruleAt t rule .watched) (s .rule rule h .watched) in
-      let l = near-first rule in
-      omega (arith, p ∙ List·getD-map cap (measures near (t .nodes)) (ruleAt t rule .watched) 0, measure-at near nearAs near-measured (t .nodes) (ruleAt t rule .watched))
+      measure-found near nearAs near-measured (t .nodes) (ruleAt t rule .watched) (omega (arith, near-first rule)) p

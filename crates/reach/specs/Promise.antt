@@ -10,7 +10,7 @@ use Rattle.mltl.specs.Mltl.{holds, delay, near, DifferAt, InReach}
 use Rattle.table.specs.Nodes.{watchedFormula}
 use Rattle.table.specs.Sound.{isSound}
 use Rattle.table.specs.declared.Table.{Table}
-use Rattle.reach.specs.Reach.{ticks, Among, reachRows, reachNumber, reached}
+use Rattle.reach.specs.Reach.{Among, Inside, reachRows, reachNumber, reached}
 
 -- of a mission of n states, and its tick s
 pub record Relied (t : Table) (rule n s : ℕ) : Type 0 where
@@ -20,8 +20,8 @@ pub record Relied (t : Table) (rule n s : ℕ) : Type 0 where
   -- the range: the mission's ticks from s - D to s - near
   pub exactly : reachNumber t rule n s ≡ 0 → (i : ℕ)
       → Among (reached t rule n s) i ↔ ((i < n) × InReach (near (watchedFormula t rule)) (delay (watchedFormula t rule)) s i)
-  -- where there is a first and a last tick, they are ticks of the mission in this order
-  pub some : (first last : ℕ) → reached t rule n s ≡ ticks first last → (first ≤ last) × (last < n)
+  -- where there is a first and a last tick, there is a tick from the one to the other
+  pub inside : Inside n (reached t rule n s)
   -- the near distance of a rule of a sound table is at most its delay
   pub near-first : isSound t ≡ true → near (watchedFormula t rule) ≤ delay (watchedFormula t rule)
   -- a call is refused exactly where a row fits it

@@ -1,5 +1,5 @@
 -- How far one bad reading reaches (document 02, A8): the ticks of a mission at which a rule's verdict may depend on the state of tick s.
-use Prim.Native.Nat.{ℕ, _-_, _≤_}
+use Prim.Native.Nat.{ℕ, _-_, _≤_, _<_}
 use mathlib.Core.Bool.{Bool}
 use mathlib.Core.List.{List, [], _∷_, _++_}
 use lib.Dec.{ltb, leb, eqb}
@@ -30,6 +30,12 @@ abbrev pub Among : Reached → ℕ → Type 0
 Among (refused number) t = ⊥
 Among empty t = ⊥
 Among (ticks first last) t = (first ≤ t) × (t ≤ last)
+
+-- the first and the last tick are ticks of a mission of n states, in this order
+abbrev pub Inside : ℕ → Reached → Type 0
+Inside n (refused number) = Unit {0}
+Inside n empty = Unit {0}
+Inside n (ticks first last) = (first ≤ last) × (last < n)
 
 -- ---- calls
 -- the rows of refusals: those of a call for a rule, and a tick s that is not below the mission's length n

@@ -1,7 +1,7 @@
 // How far one bad reading reaches: the ticks at which a rule's verdict may change when the state of one tick does.
 ghost use mathlib.Core.Path.{_≡_};
 ghost use mathlib.Core.List.{map};
-ghost use Prim.Native.Nat.{_≤_, min};
+ghost use Prim.Native.Nat.{_≤_};
 ghost use lib.ListN.{getD, take};
 ghost use Rattle.limits.specs.Limits.{maxNodes};
 ghost use Rattle.lists.specs.Choice.{pick};
@@ -26,12 +26,6 @@ const OVERLONG: u16 = MAX_DELAY + 1;
 
 // ---- the near distances of the nodes along a table, each from those before it; capped
 
-fn lesser(a: u16, b: u16) -> u16
-    ensures { λ r. ⌜ r ≡ min a b ⌝ }
-{
-    if a < b { a } else { b }
-}
-
 // A value where it is used, and 0 otherwise.
 fn if_used(used: bool, x: u16) -> u16
     ensures { λ r. ⌜ r ≡ pick used x 0 ⌝ }
@@ -40,17 +34,17 @@ fn if_used(used: bool, x: u16) -> u16
 }
 
 // The near distance of a node by those of its operands.
-fn near_by(n: Node, a: u16, b: u16) -> u32
+fn near_by(n: Node, a: u16, b: u16) -> usize
     ensures { λ r. ⌜ r ≡ nodeNear n a b ⌝ }
 {
     let u = table::uses_of(n.kind);
     let lo = if_used(u.interval, n.lo);
     let left = if_used(u.left, a);
-    let both = lesser(a, b);
+    let both = lists::lesser(a as usize, b as usize);
     if u.right {
-        return lo as u32 + both as u32;
+        return lo as usize + both;
     }
-    lo as u32 + left as u32
+    lo as usize + left as usize
 }
 
 // The near distance at a place before `place`, and 0 for any other.
@@ -70,7 +64,7 @@ fn near_over(ds: &[u16; MAX_NODES], place: usize, n: Node) -> u16
     let a = near_at(ds, place, n.left);
     let b = near_at(ds, place, n.right);
     let d = near_by(n, a, b);
-    if d < OVERLONG as u32 {
+    if d < OVERLONG as usize {
         d as u16
     } else {
         OVERLONG

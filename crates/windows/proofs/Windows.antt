@@ -80,7 +80,7 @@ module _ {W : ℕ → ℕ → ℕ → (ℕ → Bool) → ℕ → Bool} {join : B
 
   pub with-leftover : {us : List ℕ} → Turned (λ t. join (bitAt zs t) (bitAt zs (t + d .leftover))) zs us → Turned (W (span xs) lo hi (bitAt xs)) xs us
   with-leftover r =
-      window-later laws lo hi _ (interval-fits lo hi fit .0) (o .whole) p (window-joined laws (2 ^ d .exponent - 1) (d .leftover) (o .near) q r)
+      window-later laws lo hi _ (interval-fits lo hi fit .0) (o .whole) p (window-joined laws (2 ^ d .exponent - 1) (d .leftover) (o .gapless) q r)
 
   pub without-leftover : d .leftover ≤ 0 → Turned (W (span xs) lo hi (bitAt xs)) xs zs
   without-leftover z = window-later laws lo hi (2 ^ d .exponent - 1) (interval-fits lo hi fit .0) (omega (arith, o .whole)) p q

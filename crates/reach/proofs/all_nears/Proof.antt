@@ -10,7 +10,7 @@ use Rattle.reach.specs.Code.Steps.{nearOver}
 use Rattle.lists.proofs.Sequences.{length-mapped}
 use Rattle.lists.specs.Sequence.{chain}
 use Rattle.lists.proofs.Loops.{Made, made-start, made-more, made-done}
-use Rattle.reach.proofs.Nears.{capped-over, nears-chain}
+use Rattle.reach.proofs.Nears.{near-capped, nears-chain}
 use Rattle.reach.proofs.all_nears.Statement.{statement}
 use Rattle.reach.proofs.all_nears.Tie as tie
 
@@ -29,7 +29,7 @@ loop-again c =
       l .inv .1,
       simp length-set (l .inv .2),
       made-more nearOver cap ns (l .ds) (l .i) _ noNode (omega arith) (omega arith)
-          (capped-over (chain nearOver [] (take (l .i) ns)) (getD ns (l .i) noNode) (c .near-over .ensures) m)
+          (near-capped (chain nearOver [] (take (l .i) ns)) (getD ns (l .i) noNode) (c .near-over .ensures) m)
           m,
     )
 

@@ -10,7 +10,7 @@ use Rattle.table.specs.Code.Steps.{nodeDelayOver}
 use Rattle.lists.proofs.Sequences.{length-mapped}
 use Rattle.lists.specs.Sequence.{chain}
 use Rattle.lists.proofs.Loops.{Made, made-start, made-more, made-done}
-use Rattle.table.proofs.Delays.{capped-over, waits-chain}
+use Rattle.table.proofs.Delays.{delay-capped, waits-chain}
 use Rattle.table.proofs.chain.all_delays.Statement.{statement}
 use Rattle.table.proofs.chain.all_delays.Tie as tie
 
@@ -31,7 +31,7 @@ loop-again c =
       l .inv .1,
       simp length-set (l .inv .2),
       made-more f cap ns (l .ds) (l .i) _ noNode (omega arith) (omega arith)
-          (capped-over (a .old) (chain f [] (take (l .i) ns)) (getD ns (l .i) noNode) (c .delay-from .ensures) m)
+          (delay-capped (a .old) (chain f [] (take (l .i) ns)) (getD ns (l .i) noNode) (c .delay-from .ensures) m)
           m,
     )
 
