@@ -28,15 +28,15 @@ near-within (R lo hi a b) h =
     let p = near-within b (true-right (ordered a) _ (true-right (leb lo hi) _ h)) in
     omega (arith, until-right lo hi (delay a) (delay b))
 
--- ---- what the simplifying laws do to it, by how each operator makes it of its operands'
-abbrev Pair : (Formula → Formula → Formula) → Type 0
-Pair C = (a b : Formula) → near (C a b) ≡ min (near a) (near b)
+-- ---- what the simplifying laws do to it, over the operator: one that makes it of its operands' as and does, as F, or as U
+abbrev AsAnd : (Formula → Formula → Formula) → Type 0
+AsAnd C = (a b : Formula) → near (C a b) ≡ min (near a) (near b)
 
-abbrev Later : (ℕ → ℕ → Formula → Formula) → Type 0
-Later T = (lo hi : ℕ) (a : Formula) → near (T lo hi a) ≡ lo + near a
+abbrev AsF : (ℕ → ℕ → Formula → Formula) → Type 0
+AsF T = (lo hi : ℕ) (a : Formula) → near (T lo hi a) ≡ lo + near a
 
-abbrev Until : (ℕ → ℕ → Formula → Formula → Formula) → Type 0
-Until S = (lo hi : ℕ) (a b : Formula) → near (S lo hi a b) ≡ lo + min (near a) (near b)
+abbrev AsU : (ℕ → ℕ → Formula → Formula → Formula) → Type 0
+AsU S = (lo hi : ℕ) (a b : Formula) → near (S lo hi a b) ≡ lo + min (near a) (near b)
 
 pub not-not-keeps : (a : Formula) → near a ≡ near (neg (neg a))
 unfolding near
@@ -47,15 +47,15 @@ pub constant-keeps : (b c : Bool) → near (const b) ≡ near (neg (const c))
 unfolding near
 constant-keeps b c = refl
 
-zero : (b : Bool) → near (const b) ≡ 0
+constant-zero : (b : Bool) → near (const b) ≡ 0
 unfolding near
-zero b = refl
+constant-zero b = refl
 
 -- and, or, with their sides exchanged too: of one node twice, and beside a constant, where a formula or a constant stays
-pub exchanged : (C : Formula → Formula → Formula) → Pair C → Pair (λ a b. C b a)
+pub exchanged : (C : Formula → Formula → Formula) → AsAnd C → AsAnd (λ a b. C b a)
 exchanged C p a b = omega (arith, p b a)
 
-module _ (C : Formula → Formula → Formula) (p : Pair C) where
+module _ (C : Formula → Formula → Formula) (p : AsAnd C) where
   pub same-keeps : (a : Formula) → near a ≡ near (C a a)
   same-keeps a = omega (arith, p a a)
 
@@ -63,10 +63,10 @@ module _ (C : Formula → Formula → Formula) (p : Pair C) where
   constant-grows a b = omega (arith, p a (const b))
 
   pub constant-stays : (a : Formula) (b : Bool) → near (const b) ≡ near (C a (const b))
-  constant-stays a b = omega (arith, p a (const b), zero b)
+  constant-stays a b = omega (arith, p a (const b), constant-zero b)
 
   -- two intervals, one inside the other: the outer one stays, or the inner one
-  module _ (T : ℕ → ℕ → Formula → Formula) (q : Later T) (lo hi c d : ℕ) (h : lo ≤ c) (a : Formula) where
+  module _ (T : ℕ → ℕ → Formula → Formula) (q : AsF T) (lo hi c d : ℕ) (h : lo ≤ c) (a : Formula) where
     pub outer-keeps : near (T lo hi a) ≡ near (C (T lo hi a) (T c d a))
     outer-keeps = omega (arith, p (T lo hi a) (T c d a), q lo hi a, q c d a)
 
@@ -74,7 +74,7 @@ module _ (C : Formula → Formula → Formula) (p : Pair C) where
     inner-grows = omega (arith, p (T lo hi a) (T c d a), q lo hi a, q c d a)
 
 -- F, G: at [0,0], one after another, and of a constant
-module _ (T : ℕ → ℕ → Formula → Formula) (q : Later T) where
+module _ (T : ℕ → ℕ → Formula → Formula) (q : AsF T) where
   pub now-keeps : (a : Formula) → near a ≡ near (T 0 0 a)
   now-keeps a = omega (arith, q 0 0 a)
 
@@ -85,22 +85,22 @@ module _ (T : ℕ → ℕ → Formula → Formula) (q : Later T) where
   constant-falls lo hi b = omega (arith, q lo hi (const b))
 
 -- U, R: at [0,0], and with a constant on the right
-module _ (S : ℕ → ℕ → Formula → Formula → Formula) (q : Until S) where
+module _ (S : ℕ → ℕ → Formula → Formula → Formula) (q : AsU S) where
   pub right-grows : (a b : Formula) → near (S 0 0 a b) ≤ near b
   right-grows a b = omega (arith, q 0 0 a b)
 
   pub right-constant-falls : (lo hi : ℕ) (a : Formula) (b : Bool) → near (const b) + lo ≡ near (S lo hi a (const b))
-  right-constant-falls lo hi a b = omega (arith, q lo hi a (const b), zero b)
+  right-constant-falls lo hi a b = omega (arith, q lo hi a (const b), constant-zero b)
 
--- these are the operators
-pub near-pairs : Pair and × Pair or
+-- which these are
+pub as-and : AsAnd and × AsAnd or
 unfolding near
-near-pairs = (λ a b. refl, λ a b. refl)
+as-and = (λ a b. refl, λ a b. refl)
 
-pub near-later : Later F × Later G
+pub as-F : AsF F × AsF G
 unfolding near
-near-later = (λ lo hi a. refl, λ lo hi a. refl)
+as-F = (λ lo hi a. refl, λ lo hi a. refl)
 
-pub near-until : Until U × Until R
+pub as-U : AsU U × AsU R
 unfolding near
-near-until = (λ lo hi a b. refl, λ lo hi a b. refl)
+as-U = (λ lo hi a b. refl, λ lo hi a b. refl)
