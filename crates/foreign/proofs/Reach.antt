@@ -27,11 +27,11 @@ accepted-by true x r l q e = eqb-true r 0 q
 accepted-by false x r l q e = omega (arith, l, e)
 
 -- a tick of the range lies between the words that the call wrote
-struck-by : (x : Reached) (range : List ℕ) (i : ℕ) → Among x i
+in-range-by : (x : Reached) (range : List ℕ) (i : ℕ) → Among x i
     → (reachAnswer x ≡ 256) × (getD (rangeAfter x range) 0 0 ≤ i) × (i ≤ getD (rangeAfter x range) 1 0)
-struck-by (refused number) range i k = absurd k
-struck-by empty range i k = absurd k
-struck-by (ticks first last) range i k = (refl, k .0, k .1)
+in-range-by (refused number) range i k = absurd k
+in-range-by empty range i k = absurd k
+in-range-by (ticks first last) range i k = (refl, k .0, k .1)
 
 untouched-by : (x : Reached) (range : List ℕ) → ¬ (reachAnswer x ≡ 256) → rangeAfter x range ≡ range
 untouched-by (refused number) range k = refl
@@ -43,6 +43,6 @@ foreign-reach = record {
   same = λ table rule n s range e xs ys l d i h k.
       let t = tableFrom table in
       relied t rule n s .same (accepted-by _ _ (reachNumber t rule n s) (small t rule n s) refl e) xs ys l d i h
-      (λ w. let z = struck-by (reached t rule n s) range i w in k (record { answered = z .0; from = z .1; to = z .2 }));
+      (λ w. let z = in-range-by (reached t rule n s) range i w in k (record { answered = z .0; from = z .1; to = z .2 }));
   untouched = λ table rule n s range. untouched-by (reached (tableFrom table) rule n s) range;
 }

@@ -18,7 +18,7 @@ abbrev pub rangeFor : List ℕ → ℕ → ℕ → ℕ → List ℕ → List ℕ
 rangeFor table rule n s range = rangeAfter (reached (tableFrom table) rule n s) range
 
 -- there is a range, and i lies in it
-pub record Struck (table : List ℕ) (rule n s : ℕ) (range : List ℕ) (i : ℕ) : Type 0 where
+pub record InRange (table : List ℕ) (rule n s : ℕ) (range : List ℕ) (i : ℕ) : Type 0 where
   pub answered : reachFor table rule n s ≡ 256
   pub from : getD (rangeFor table rule n s range) 0 0 ≤ i
   pub to : i ≤ getD (rangeFor table rule n s range) 1 0
@@ -26,7 +26,7 @@ pub record Struck (table : List ℕ) (rule n s : ℕ) (range : List ℕ) (i : �
 pub record ForeignReach : Type 0 where
   -- of a call that is accepted, which its number 0 tells
   pub same : (table : List ℕ) (rule n s : ℕ) (range : List ℕ) → reachFor table rule n s % 256 ≡ 0 → (xs ys : List ℕ) → length xs ≡ n → DifferAt s xs ys
-      → (i : ℕ) → i < n → ¬ (Struck table rule n s range i)
+      → (i : ℕ) → i < n → ¬ (InRange table rule n s range i)
       → holds (watchedFormula (tableFrom table) rule) xs i ≡ holds (watchedFormula (tableFrom table) rule) ys i
   -- where there is no range, nothing is written
   pub untouched : (table : List ℕ) (rule n s : ℕ) (range : List ℕ) → ¬ (reachFor table rule n s ≡ 256) → rangeFor table rule n s range ≡ range
