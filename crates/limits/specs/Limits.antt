@@ -82,6 +82,14 @@ feedWords = 16
 abbrev pub closeWords : ℕ
 closeWords = 64
 
+-- ---- the scheduler
+-- the most records of its list, and the words of waiting states for each: a block
+abbrev pub maxList : ℕ
+maxList = 8
+
+abbrev pub waitingWords : ℕ
+waitingWords = maxBlock
+
 -- ---- tables and sessions as bytes
 abbrev pub tableBytes : ℕ
 tableBytes = 546

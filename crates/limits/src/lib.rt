@@ -63,6 +63,13 @@ pub const FEED_WORDS: usize = 16;
 
 pub const CLOSE_WORDS: usize = 64;
 
+// ---- the scheduler
+
+// The most records of its list, and the words of waiting states for each: a block.
+pub const MAX_LIST: usize = 8;
+
+pub const WAITING_WORDS: usize = MAX_BLOCK;
+
 // ---- tables and sessions as bytes
 
 pub const TABLE_BYTES: usize = 546;

@@ -88,3 +88,12 @@ TICK = 31
 -- a tick that is not below the mission's length
 abbrev pub BEYOND : ℕ
 BEYOND = 35
+
+-- ---- the scheduler
+-- an empty block, a record outside the list, or a list above 8
+abbrev pub LIST : ℕ
+LIST = 36
+
+-- a block is left with, or a close asked of, a record that still waits
+abbrev pub WAITING : ℕ
+WAITING = 37

@@ -49,3 +49,9 @@ pub const SEEN: u8 = 24;
 pub const TICK: u8 = 31;
 
 pub const BEYOND: u8 = 35;
+
+// ---- the scheduler
+
+pub const LIST: u8 = 36;
+
+pub const WAITING: u8 = 37;
