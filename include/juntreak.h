@@ -34,6 +34,7 @@ extern "C" {
 #define JUNTREAK_FEED_WORDS 16             /* least length of out for a feed, uint64_t */
 #define JUNTREAK_CLOSE_WORDS 64            /* least length of out for a close, uint64_t */
 #define JUNTREAK_REGISTER_WORDS 80         /* words of a node's register in the scratch */
+#define JUNTREAK_WAITING_WORDS 1024        /* words of waiting for each record of a list, uint32_t */
 
 /* Limits. */
 #define JUNTREAK_MAX_RECORDS 255                /* records of a book, the head included */
@@ -50,6 +51,7 @@ extern "C" {
 #define JUNTREAK_MAX_SEEN 18446744073709551615u /* states of a session from its opening on */
 #define JUNTREAK_MAX_NARROW_SEEN 4294967295     /* the same of a narrow session */
 #define JUNTREAK_MAX_DEPTH 32                   /* brackets of a typed rule that are open at once */
+#define JUNTREAK_MAX_LIST 8                     /* records of a list */
 
 /* Least length of out for a whole trace of n states. */
 #define JUNTREAK_WHOLE_WORDS(n) ((n) / 64 + ((n) % 64 != 0))
@@ -73,11 +75,13 @@ enum {
     JUNTREAK_LONG = 9,      /* delay of a node above 4095 */
     JUNTREAK_NAME = 10,     /* name already used */
     JUNTREAK_RULELESS = 11, /* chain ended without a rule, record 0; or an empty text, line 0 */
-    /* Tables and sessions. */
-    JUNTREAK_UNSOUND = 25,  /* bytes that are no sound table's or no session's */
+    /* Tables, sessions and lists. */
+    JUNTREAK_UNSOUND = 25,  /* bytes that are no sound table's or no session's, or an unfit record of a list */
     JUNTREAK_ABSENT = 21,   /* rule number not below the rule count */
-    JUNTREAK_STATES = 22,   /* above 1024 states (feed) or 5120 (whole trace, early) */
-    JUNTREAK_BUFFER = 23,   /* history, scratch or out too short */
+    JUNTREAK_STATES = 22,   /* above 1024 states (feed, leave) or 5120 (whole trace, early) */
+    JUNTREAK_BUFFER = 23,   /* history, waiting, scratch or out too short */
+    JUNTREAK_LIST = 36,     /* an empty block, a record outside the list, or a list above 8 records */
+    JUNTREAK_WAITING = 37,  /* the record to leave a block with, or to close, still waits */
     JUNTREAK_SEEN = 24,     /* seen + k above 18446744073709551615 */
     JUNTREAK_TICK = 31,     /* tick not below the states given */
     JUNTREAK_BEYOND = 35,   /* tick not below the mission's length */
@@ -123,9 +127,20 @@ enum {
 /* of juntreak_reach: the number, and 1 if there is a range */
 #define JUNTREAK_REACH_NUMBER(answer) ((uint32_t)(answer) % 256)
 #define JUNTREAK_REACH_RANGE(answer) ((uint32_t)(answer) / 256)
-/* of juntreak_feed and of both closes: the number, and the count of verdicts */
+/* of juntreak_feed, of both closes and of juntreak_close_record: the number,
+ * and the count of verdicts */
 #define JUNTREAK_CALL_NUMBER(answer) ((uint32_t)(answer))
 #define JUNTREAK_CALL_COUNT(answer) ((uint32_t)((uint64_t)(answer) >> 32))
+/* of juntreak_turn: the number, 1 if a record was served, its place, and the
+ * count of verdicts */
+#define JUNTREAK_TURN_NUMBER(answer) ((uint32_t)((answer) % 256))
+#define JUNTREAK_TURN_SERVED(answer) ((uint32_t)((uint64_t)(answer) >> 8) % 256)
+#define JUNTREAK_TURN_PLACE(answer) ((uint32_t)((uint64_t)(answer) >> 16) % 65536)
+#define JUNTREAK_TURN_COUNT(answer) ((uint32_t)((uint64_t)(answer) >> 32))
+/* the place to hand to the next turn: that of the record served, or place, the
+ * one that this turn was given; answer is evaluated twice */
+#define JUNTREAK_TURN_NEXT(answer, place) \
+    (JUNTREAK_TURN_SERVED(answer) ? (size_t)JUNTREAK_TURN_PLACE(answer) : (size_t)(place))
 
 /* Verdict i of out, 1 or 0. */
 #define JUNTREAK_VERDICT(out, i) ((unsigned)((out)[(i) / 64] >> ((i) % 64) & 1))
@@ -167,6 +182,16 @@ enum {
  * same 558 bytes, with seen at most 4294967295.
  *
  * Verdicts in out: verdict i is bit i % 64 of word i / 64.
+ *
+ * A list is up to 8 records over one table, each of which watches a rule;
+ * several may watch one. They are no records of a book. A record has a rule
+ * number, seen, and waiting, the number of states left with it that are not
+ * yet fed. Two buffers are lent for the whole list: history, 4095 words for
+ * each record, those of record i from word 4095 * i on, and waiting, 1024
+ * words for each, those of record i from word 1024 * i on. The caller lends
+ * the same table, list, history and waiting to every call on a list. At the
+ * start each record has its rule number, seen 0 and waiting 0; both buffers may
+ * hold anything then.
  *
  * A text is lines, each ended by byte 10; a line is one rule.
  *   line         name : formula
@@ -360,6 +385,73 @@ uint64_t juntreak_close_old(uint8_t session[JUNTREAK_SESSION_BYTES],
                             const uint32_t *history, size_t h,
                             uint64_t *scratch, size_t x,
                             uint64_t *out, size_t o);
+
+/* A record of a list: 24 bytes. */
+struct juntreak_record {
+    uint64_t rule;    /* the rule number */
+    uint64_t seen;    /* states fed since the start or the last close */
+    uint64_t waiting; /* states left and not yet fed, 0 to 1024 */
+};
+
+/* The calls on a list of n records: juntreak_leave leaves a block of states
+ * with one record, juntreak_turn feeds the block of one record that waits, and
+ * juntreak_close_record ends the trace of one.
+ * - Whoever waits is served within as many accepted turns as there are records,
+ *   whoever else leaves blocks meanwhile, if each turn gets the place that the
+ *   last one gave back (JUNTREAK_TURN_NEXT) and nobody else writes the list.
+ * - From records with seen 0 and waiting 0 on, if nobody else writes the list,
+ *   history or waiting, each record's verdicts are those of a session of its
+ *   own: opened on its rule of the same table, and given the blocks served and
+ *   the closes in the same order.
+ * All three refuse with 25 if the table is not sound, or any record of the
+ * list, not only the one that the call is about, has a rule number not below
+ * the rule count or waiting above 1024; and with 36 if n is above 8. */
+
+/* Leaves a block of k states, k from 1 to 1024, with the record at place. w is
+ * the length of waiting, at least 1024 * n.
+ * Answers the number: 0, 25, 22, 23, 36 (also k 0, or place not below n), 37
+ * (the record still waits), 24 (its seen + k). If it is 0, the block stands in
+ * waiting's words from 1024 * place on, the others are unchanged, and the
+ * record's waiting is k. */
+uint32_t juntreak_leave(struct juntreak_record *records, size_t n,
+                        const uint8_t table[JUNTREAK_TABLE_BYTES],
+                        size_t place, const uint32_t *block, size_t k,
+                        uint32_t *waiting, size_t w);
+
+/* A turn: feeds the first record that waits after the one at place, wrapping
+ * round, that one last of all. A place not below n means that the search begins
+ * at record 0. h, w, x and o are the lengths of history, waiting, scratch and
+ * out, at least 4095 * n, 1024 * n, 5280 and 16.
+ * Answers number + 256 if a record was served + 65536 * its place
+ * + 2^32 * count, numbers 0, 25, 23, 36, 24 (seen + waiting of the record to
+ * serve); all but the number is 0 if refused. If a record was served:
+ * - count, out, scratch and the record's own words of history are as
+ *   juntreak_feed answers and leaves them for a session with the record's rule
+ *   number and seen, given the block that waits; the other words of history are
+ *   unchanged;
+ * - the record's seen has grown by its waiting, which is 0 then.
+ * If nobody waits, the answer is 0, and only scratch changes: its first 5280
+ * words are zero. */
+uint64_t juntreak_turn(struct juntreak_record *records, size_t n,
+                       const uint8_t table[JUNTREAK_TABLE_BYTES],
+                       size_t place, uint32_t *history, size_t h,
+                       const uint32_t *waiting, size_t w,
+                       uint64_t *scratch, size_t x,
+                       uint64_t *out, size_t o);
+
+/* Ends the trace of the record at place. h, x and o are at least 4095 * n, 5280
+ * and 64.
+ * Answers number + 2^32 * count, numbers 0, 25, 23, 36 (also place not below n),
+ * 37 (the record still waits); the count is 0 if refused. If the number is 0,
+ * count, out and scratch are as juntreak_close answers and leaves them for a
+ * session with the record's rule number and seen and its words of history, and
+ * the record's seen is 0. */
+uint64_t juntreak_close_record(struct juntreak_record *records, size_t n,
+                               const uint8_t table[JUNTREAK_TABLE_BYTES],
+                               size_t place,
+                               const uint32_t *history, size_t h,
+                               uint64_t *scratch, size_t x,
+                               uint64_t *out, size_t o);
 
 #ifdef __cplusplus
 }

@@ -148,6 +148,19 @@ pub fn all() -> Vec<Named> {
     patterns().into_iter().chain(windows()).chain([mail()]).collect()
 }
 
+/// Eight of them as the rules of one table, each with nodes of its own, 50 in all: all but F[0,1023] p, which takes about as long as F[0,1000] p.
+pub fn eight() -> (Vec<&'static str>, Table) {
+    let (mut names, mut t) = (vec![], Table { nodes: vec![], rules: vec![] });
+    for (name, one) in all().into_iter().filter(|(name, _)| !name.contains("1023")) {
+        let base = t.nodes.len() as u8;
+        let place = |n: &Node, operand: u8, kinds: &[u8]| if kinds.contains(&n.kind) { base + operand } else { 0 };
+        t.nodes.extend(one.nodes.iter().map(|n| Node { left: place(n, n.left, &[4, 5, 6, 7, 8, 9, 10]), right: place(n, n.right, &[5, 6, 9, 10]), ..*n }));
+        names.push(name);
+        t.rules.push(Rule { name: names.len() as u16, watched: base + one.rules[0].watched });
+    }
+    (names, t)
+}
+
 /// A formula of `count` nodes that needs all of them: each is over the one before, by turns F[0,3], not, or, and.
 pub fn of_nodes(count: u8) -> Table {
     let mut f = Formula::default();

@@ -2,7 +2,7 @@
 include!(concat!(env!("OUT_DIR"), "/header.rs"));
 
 /// More than every refusal number: the length of a list of counts by number.
-pub const NUMBERS: usize = refusals::BEYOND as usize + 1;
+pub const NUMBERS: usize = refusals::WAITING as usize + 1;
 
 /// The least length of out for a whole trace of n states.
 pub const fn whole_words(n: usize) -> usize {

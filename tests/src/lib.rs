@@ -1,14 +1,15 @@
 //! The proved library as Rust sees it (`library`), the limits and refusal numbers of its C header (`header`), models written from the
-//! documents alone (`model`, `known`, `reached`, `typed`, `viable`, `written`, `program`), calls on sessions beside the model's (`compared`), what the
-//! program rules tells (`message`), random input (`random`), where programs are (`place`) and how they are run (`spawn`). For the benchmarks
-//! (`bench`): the formulas (`formulas`), and what the library and the program are compared with (`naive`, `queue`, `twin`, `plain`,
-//! `plain_text`).
+//! documents alone (`model`, `known`, `reached`, `scheduled`, `typed`, `viable`, `written`, `program`), calls beside the model's, on
+//! sessions (`compared`) and on lists of records (`listed`), what the program rules tells (`message`), random input (`random`), where
+//! programs are (`place`) and how they are run (`spawn`). For the benchmarks (`bench`): the formulas (`formulas`), and what the library and
+//! the program are compared with (`naive`, `queue`, `twin`, `plain`, `plain_text`).
 pub mod bench;
 pub mod compared;
 pub mod formulas;
 pub mod header;
 pub mod known;
 pub mod library;
+pub mod listed;
 pub mod message;
 pub mod model;
 pub mod naive;
@@ -19,6 +20,7 @@ pub mod program;
 pub mod queue;
 pub mod random;
 pub mod reached;
+pub mod scheduled;
 pub mod spawn;
 pub mod twin;
 pub mod typed;

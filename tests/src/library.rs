@@ -6,8 +6,17 @@ pub type SessionBytes = [u8; SESSION_BYTES];
 pub type NarrowBytes = [u8; NARROW_BYTES];
 pub type Parts = [u8; MAX_PARTS];
 
+/// A record of a list.
+#[repr(C)]
+#[derive(Clone, Copy, Debug, Default, PartialEq, Eq)]
+pub struct Record {
+    pub rule: u64,
+    pub seen: u64,
+    pub waiting: u64,
+}
+
 mod raw {
-    use super::{NarrowBytes, Parts, SessionBytes, TableBytes};
+    use super::{NarrowBytes, Parts, Record, SessionBytes, TableBytes};
 
     extern "C" {
         pub fn juntreak_check_book(book: *const u8, n: usize) -> u32;
@@ -26,6 +35,9 @@ mod raw {
         pub fn juntreak_feed(session: *mut SessionBytes, block: *const u32, k: usize, history: *mut u32, h: usize, scratch: *mut u64, x: usize, out: *mut u64, o: usize) -> u64;
         pub fn juntreak_close(session: *mut SessionBytes, history: *const u32, h: usize, scratch: *mut u64, x: usize, out: *mut u64, o: usize) -> u64;
         pub fn juntreak_close_old(session: *mut SessionBytes, history: *const u32, h: usize, scratch: *mut u64, x: usize, out: *mut u64, o: usize) -> u64;
+        pub fn juntreak_leave(records: *mut Record, n: usize, table: *const TableBytes, place: usize, block: *const u32, k: usize, waiting: *mut u32, w: usize) -> u32;
+        pub fn juntreak_turn(records: *mut Record, n: usize, table: *const TableBytes, place: usize, history: *mut u32, h: usize, waiting: *const u32, w: usize, scratch: *mut u64, x: usize, out: *mut u64, o: usize) -> u64;
+        pub fn juntreak_close_record(records: *mut Record, n: usize, table: *const TableBytes, place: usize, history: *const u32, h: usize, scratch: *mut u64, x: usize, out: *mut u64, o: usize) -> u64;
     }
 }
 
@@ -122,5 +134,23 @@ pub fn close(session: &mut SessionBytes, history: &[u32], scratch: &mut [u64], o
 /// The number and the count.
 pub fn close_old(session: &mut SessionBytes, history: &[u32], scratch: &mut [u64], out: &mut [u64]) -> (u32, u32) {
     let r = unsafe { raw::juntreak_close_old(session, history.as_ptr(), history.len(), scratch.as_mut_ptr(), scratch.len(), out.as_mut_ptr(), out.len()) };
+    counted(r)
+}
+
+/// The number.
+pub fn leave(records: &mut [Record], table: &TableBytes, place: usize, block: &[u32], waiting: &mut [u32]) -> u32 {
+    unsafe { raw::juntreak_leave(records.as_mut_ptr(), records.len(), table, place, block.as_ptr(), block.len(), waiting.as_mut_ptr(), waiting.len()) }
+}
+
+/// The whole answer: number + 256 if a record was served + 65536 × its place + 2^32 × count.
+pub fn turn(records: &mut [Record], table: &TableBytes, place: usize, history: &mut [u32], waiting: &[u32], scratch: &mut [u64], out: &mut [u64]) -> u64 {
+    let (n, h, w, x, o) = (records.len(), history.len(), waiting.len(), scratch.len(), out.len());
+    unsafe { raw::juntreak_turn(records.as_mut_ptr(), n, table, place, history.as_mut_ptr(), h, waiting.as_ptr(), w, scratch.as_mut_ptr(), x, out.as_mut_ptr(), o) }
+}
+
+/// The number and the count.
+pub fn close_record(records: &mut [Record], table: &TableBytes, place: usize, history: &[u32], scratch: &mut [u64], out: &mut [u64]) -> (u32, u32) {
+    let (n, h, x, o) = (records.len(), history.len(), scratch.len(), out.len());
+    let r = unsafe { raw::juntreak_close_record(records.as_mut_ptr(), n, table, place, history.as_ptr(), h, scratch.as_mut_ptr(), x, out.as_mut_ptr(), o) };
     counted(r)
 }

@@ -70,6 +70,12 @@ fn a_bad_reading_reaches_three_verdicts() {
 }
 
 #[test]
+fn three_rules_are_served_in_turn() {
+    let rules = ["rule 7: 12 verdicts, first no at tick 11\n", "rule 8: 12 verdicts, first no at tick 5\n", "rule 9: 12 verdicts, all yes\n"];
+    assert_eq!(printed("scheduler"), rules.concat());
+}
+
+#[test]
 fn the_rows_are_those_worked_by_hand() {
     assert_eq!(printed("rows"), include_str!("../../examples/rows.txt"));
 }

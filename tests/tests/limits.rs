@@ -7,7 +7,7 @@ use std::collections::{BTreeMap, BTreeSet};
 type Constants = BTreeMap<String, u64>;
 
 /// Every constant of the header.
-const VALUES: [(&str, u64); 55] = [
+const VALUES: [(&str, u64); 59] = [
     ("RECORD_BYTES", 12),
     ("BOOK_BYTES", 3060),
     ("WRITTEN_BYTES", 876),
@@ -20,6 +20,7 @@ const VALUES: [(&str, u64); 55] = [
     ("FEED_WORDS", 16),
     ("CLOSE_WORDS", 64),
     ("REGISTER_WORDS", 80),
+    ("WAITING_WORDS", 1024),
     ("MAX_RECORDS", 255),
     ("MAX_NODES", 64),
     ("MAX_RULES", 8),
@@ -34,6 +35,7 @@ const VALUES: [(&str, u64); 55] = [
     ("MAX_SEEN", 18_446_744_073_709_551_615),
     ("MAX_NARROW_SEEN", 4_294_967_295),
     ("MAX_DEPTH", 32),
+    ("MAX_LIST", 8),
     ("NODE_COUNT_AT", 0),
     ("RULE_COUNT_AT", 1),
     ("RULE_NUMBER_AT", 546),
@@ -54,6 +56,8 @@ const VALUES: [(&str, u64); 55] = [
     ("ABSENT", 21),
     ("STATES", 22),
     ("BUFFER", 23),
+    ("LIST", 36),
+    ("WAITING", 37),
     ("SEEN", 24),
     ("TICK", 31),
     ("BEYOND", 35),

@@ -13,10 +13,13 @@ ghost use Rattle.verdict.specs.Verdict.{Answered};
 ghost use Rattle.early.specs.Early.{toldBy, earlyTold, earlyScratch};
 ghost use Rattle.reach.specs.Reach.{reachedBy, reached};
 ghost use Rattle.session.specs.Session.{opening, feeding, closingBy, closing, closingOld};
+ghost use Rattle.scheduler.specs.Scheduler.{leaveEffect, turnEffect, closeEffect};
+ghost use Rattle.scheduler.specs.Work.{Told, leaveWork, turnWork, closeWork};
 ghost use Rattle.narrow.specs.Narrow.{wideOf, widening};
 ghost use Rattle.flat.specs.Flat.{tableFrom, written};
 ghost use Rattle.flat.specs.Sessions.{sessionFrom, sessionWritten, renewed, narrowFrom};
 ghost use Rattle.juntreak.specs.Answers.{leaves, textAnswer, writeAnswer, delayAnswer, splitAnswer, movesAnswer, earlyAnswer, reachAnswer, rangeAfter, Simplifies, stored, counted, Called};
+ghost use Rattle.juntreak.specs.Scheduler.{turnCode, leaveCall, leaveIn, turnCall, turnIn, closeCall, closeIn};
 use book::Reading;
 use early::Decision;
 use limits::MAX_PARTS;
@@ -24,6 +27,10 @@ use limits::NARROW_BYTES;
 use limits::SESSION_BYTES;
 use limits::TABLE_BYTES;
 use reach::Range;
+use records::Change;
+use records::Record;
+use records::Summary;
+use scheduler::Turning;
 use session::Answer;
 use session::Session;
 use table::Table;
@@ -335,4 +342,143 @@ pub extern "C" fn juntreak_close_old(
     ensures { λ r. ⌜ Called renewed (closingOld (sessionFrom (now (session .entry))) (now (history .entry)) (now (scratch .entry)) (now (out .entry))) (now (session .entry)) r (now (session .exit)) (now (history .entry)) (now (scratch .exit)) (now (out .exit)) ⌝ }
 {
     close_by(true, session, history, scratch, out)
+}
+
+// ---- the scheduler: each function is one pass over the list, the work on what it has found, and the change of the list
+
+// The number of a refusal or 0, and what the list gets.
+pub struct Numbered {
+    pub number: u32,
+    pub change: Change,
+}
+
+// The answer as one number, and what the list gets.
+pub struct Coded {
+    pub code: u64,
+    pub change: Change,
+}
+
+fn leave_in(
+    table: &[u8; TABLE_BYTES],
+    s: Summary,
+    place: usize,
+    block: &[u32],
+    waiting: &mut [u32],
+) -> Numbered
+    ensures { λ r. ⌜ record { done = r; waiting = now (waiting .exit) } ≡ leaveIn (leaveWork (tableFrom (now (table .entry))) s place (now (block .entry)) (now (waiting .entry))) ⌝ }
+{
+    let t = flat::read_table(table);
+    let k = scheduler::leave(t, s, place, block, waiting);
+    let change = k.change;
+    Numbered {
+        number: k.number as u32,
+        change,
+    }
+}
+
+// A block is left with the record at a place of the list.
+#[no_mangle]
+pub extern "C" fn juntreak_leave(
+    list: &mut [Record],
+    table: &[u8; TABLE_BYTES],
+    place: usize,
+    block: &[u32],
+    waiting: &mut [u32],
+) -> u32
+    ensures { λ r. ⌜ record { answer = r; records = now (list .exit); waiting = now (waiting .exit) } ≡ leaveCall (leaveEffect (tableFrom (now (table .entry))) (now (list .entry)) place (now (block .entry)) (now (waiting .entry))) ⌝ }
+{
+    let s = records::scan(list);
+    let k = leave_in(table, s, place, block, waiting);
+    let change = k.change;
+    records::apply(list, change);
+    k.number
+}
+
+fn turn_code(k: Turning) -> u64
+    requires { ⌜ Told k ⌝ }
+    ensures { λ r. ⌜ r ≡ turnCode k ⌝ }
+{
+    let answer = k.number as u64 + 4294967296 * (k.count as u64);
+    if k.served {
+        return answer + 256 + 65536 * (k.place as u64);
+    }
+    answer
+}
+
+fn turn_in(
+    table: &[u8; TABLE_BYTES],
+    s: Summary,
+    place: usize,
+    history: &mut [u32],
+    waiting: &[u32],
+    scratch: &mut [u64],
+    out: &mut [u64],
+) -> Coded
+    ensures { λ r. ⌜ record { done = r; history = now (history .exit); scratch = now (scratch .exit); out = now (out .exit) } ≡ turnIn (turnWork (tableFrom (now (table .entry))) s place (now (history .entry)) (now (waiting .entry)) (now (scratch .entry)) (now (out .entry))) ⌝ }
+{
+    let t = flat::read_table(table);
+    let k = scheduler::turn(t, s, place, history, waiting, scratch, out);
+    let change = k.change;
+    Coded {
+        code: turn_code(k),
+        change,
+    }
+}
+
+// The first record after the place that has a block waiting is fed it.
+#[no_mangle]
+pub extern "C" fn juntreak_turn(
+    list: &mut [Record],
+    table: &[u8; TABLE_BYTES],
+    place: usize,
+    history: &mut [u32],
+    waiting: &[u32],
+    scratch: &mut [u64],
+    out: &mut [u64],
+) -> u64
+    ensures { λ r. ⌜ record { answer = r; records = now (list .exit); history = now (history .exit); scratch = now (scratch .exit); out = now (out .exit) } ≡ turnCall (turnEffect (tableFrom (now (table .entry))) (now (list .entry)) place (now (history .entry)) (now (waiting .entry)) (now (scratch .entry)) (now (out .entry))) ⌝ }
+{
+    let s = records::scan(list);
+    let k = turn_in(table, s, place, history, waiting, scratch, out);
+    let change = k.change;
+    records::apply(list, change);
+    k.code
+}
+
+fn close_in(
+    table: &[u8; TABLE_BYTES],
+    s: Summary,
+    place: usize,
+    history: &[u32],
+    scratch: &mut [u64],
+    out: &mut [u64],
+) -> Coded
+    ensures { λ r. ⌜ record { done = r; scratch = now (scratch .exit); out = now (out .exit) } ≡ closeIn (closeWork (tableFrom (now (table .entry))) s place (now (history .entry)) (now (scratch .entry)) (now (out .entry))) ⌝ }
+{
+    let t = flat::read_table(table);
+    let k = scheduler::close(t, s, place, history, scratch, out);
+    let change = k.change;
+    Coded {
+        code: k.number as u64 + 4294967296 * (k.count as u64),
+        change,
+    }
+}
+
+// The record at a place of the list is closed.
+#[no_mangle]
+pub extern "C" fn juntreak_close_record(
+    list: &mut [Record],
+    table: &[u8; TABLE_BYTES],
+    place: usize,
+    history: &[u32],
+    scratch: &mut [u64],
+    out: &mut [u64],
+) -> u64
+    ensures { λ r. ⌜ record { answer = r; records = now (list .exit); scratch = now (scratch .exit); out = now (out .exit) } ≡ closeCall (closeEffect (tableFrom (now (table .entry))) (now (list .entry)) place (now (history .entry)) (now (scratch .entry)) (now (out .entry))) ⌝ }
+{
+    let s = records::scan(list);
+    let k = close_in(table, s, place, history, scratch, out);
+    let change = k.change;
+    records::apply(list, change);
+    k.code
 }

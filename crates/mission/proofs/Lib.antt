@@ -20,3 +20,5 @@ pub mod Early
 pub mod Reach
 -- the rule that a session watches is the formula of its line
 pub mod Typed
+-- each record of the scheduler is a session of its own
+pub mod Scheduled

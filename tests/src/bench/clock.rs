@@ -15,6 +15,11 @@ impl Laps {
         self.start = Some(Instant::now());
     }
 
+    /// Begins the part of the run anew: what was done since the last does not count.
+    pub fn anew(&mut self) {
+        self.start = Some(Instant::now());
+    }
+
     /// Ends a part of the run.
     pub fn lap(&mut self) {
         let now = Instant::now();

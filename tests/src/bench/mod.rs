@@ -11,6 +11,7 @@ pub mod memory;
 pub mod plot;
 pub mod program;
 pub mod runs;
+pub mod scheduler;
 pub mod stream;
 pub mod text;
 pub mod whole;

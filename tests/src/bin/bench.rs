@@ -1,5 +1,5 @@
 //! The benchmarks: prints the tables of docs/BENCHMARKS.md. An argument names the file that the plot is written to.
-use juntreak_tests::bench::{early, floor, growth, memory, plot, program, stream, text, whole};
+use juntreak_tests::bench::{early, floor, growth, memory, plot, program, scheduler, stream, text, whole};
 
 fn main() {
     whole::run();
@@ -7,6 +7,7 @@ fn main() {
     text::run();
     let speeds = stream::run();
     floor::run();
+    scheduler::run();
     growth::run();
     memory::run();
     program::run();

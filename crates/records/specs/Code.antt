@@ -1,0 +1,2 @@
+-- the steps of the pass over a list
+pub mod Steps
