@@ -12,6 +12,7 @@ use Rattle.limits.specs.Limits.{maxList, maxBlock, historyWords}
 use Rattle.lists.specs.Choice.{pick, first}
 use Rattle.table.specs.declared.Table.{Table}
 use Rattle.session.specs.declared.Answer.{Answer}
+use Rattle.session.specs.declared.Step.{Step}
 use Rattle.records.specs.declared.Record.{Record}
 use Rattle.records.specs.declared.Summary.{Summary}
 use Rattle.records.specs.Records.{recordAt, applied}
@@ -37,8 +38,8 @@ either-way P false x y f g = g refl
 told-none : (number from n : ℕ) → Told (notServed number from n)
 told-none number from n = record { place = λ e. absurd (false≢true e); count = omega arith }
 
-told-served : (a : Answer) (p from n : ℕ) → p < maxList → a .count ≤ maxBlock → Told (servedBy a p from n)
-told-served a p from n l c = either-way (λ (k : Turning). Told k) (eqb (a .number) 0) _ _ (λ e. record { place = λ _. l; count = c }) (λ e. told-none (a .number) from n)
+told-served : (a : Step) (r : Record) (p from n : ℕ) → p < maxList → a .count ≤ maxBlock → Told (servedBy a r p from n)
+told-served a r p from n l c = either-way (λ (k : Turning). Told k) (eqb (a .number) 0) _ _ (λ e. record { place = λ _. l; count = c }) (λ e. told-none (a .number) from n)
 
 pub turn-told : (t : Table) (s : Summary) (from : ℕ) (h w x o : List ℕ) → Told (turnWork t s from h w x o .done)
 unfolding turnWork
@@ -52,7 +53,7 @@ turn-told t s from h w x o =
     (λ l.
     let f = turn-fits (misfits (t .«rule_count») s) n r (length h) (length w) (length x) (length o) (eqb-true k 0 e) in
     let b : p < n = ltb-true p n l in
-    told-served (fedIn t r p h w x o .answer) p from n (omega (arith, f .short)) (feed-count (sessionOf t r) (blockOf r p w) (partOf historyWords p h) x o))
+    told-served (fedIn t r p h w x o .step) r p from n (omega (arith, f .short)) (feed-count (sessionOf t r) (blockOf r p w) (partOf historyWords p h) x o))
     (λ l. told-none (toldOf t 0) from n))
     (λ e. told-none (toldOf t k) from n)
 

@@ -2,7 +2,6 @@
 // function over it is proved by a walk of its MIR, and does no more than one thing.
 ghost use mathlib.Core.Path.{_≡_};
 ghost use Prim.Native.Nat.{max};
-ghost use lib.ListN.{set};
 ghost use Rattle.records.specs.Records.{recordAt, withSeen, withWaiting, applied};
 ghost use Rattle.records.specs.Reading.{summaryOf};
 ghost use Rattle.records.specs.Code.Steps.{unread, readOne};
@@ -83,17 +82,6 @@ fn begin(count: usize) -> Summary
     }
 }
 
-fn stored(rs: [Record; MAX_LIST], i: usize, r: Record) -> [Record; MAX_LIST]
-    ensures { λ s. ⌜ s ≡ set rs i r ⌝ }
-{
-    if MAX_LIST <= i {
-        return rs;
-    }
-    let mut next = rs;
-    next[i] = r;
-    next
-}
-
 fn larger(a: usize, b: usize) -> usize
     ensures { λ r. ⌜ r ≡ max a b ⌝ }
 {
@@ -104,14 +92,14 @@ fn larger(a: usize, b: usize) -> usize
 fn take(s: Summary, i: usize, r: Record) -> Summary
     ensures { λ t. ⌜ t ≡ readOne s i r ⌝ }
 {
-    let rs = s.records;
-    let records = stored(rs, i, r);
-    Summary {
-        count: s.count,
-        highest: larger(s.highest, r.rule),
-        longest: larger(s.longest, r.waiting),
-        records,
+    let mut next = s;
+    next.highest = larger(s.highest, r.rule);
+    next.longest = larger(s.longest, r.waiting);
+    if MAX_LIST <= i {
+        return next;
     }
+    next.records[i] = r;
+    next
 }
 
 // One pass over the list.

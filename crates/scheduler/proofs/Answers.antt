@@ -9,7 +9,7 @@ use borrow.Author.Tests.{eq-eqb, ne-eqb, lt-ltb, le-ltb}
 use borrow.Rule.Slice.PartMut.{midOf, putMid}
 use lib.ListN.{length, take, drop, replicate, length-take}
 use lib.Seq.{take-take, take-all, drop-drop, length-take-le}
-use Rattle.limits.specs.Limits.{maxList, historyWords, waitingWords, scratchWords}
+use Rattle.limits.specs.Limits.{maxList, maxSeen, historyWords, waitingWords, scratchWords}
 use Rattle.refusals.specs.Numbers.{UNSOUND}
 use Rattle.lists.specs.Choice.{pick, first}
 use Rattle.lists.proofs.Tests.{lt-or-le, true-or-false}
@@ -18,7 +18,8 @@ use Rattle.table.specs.Sound.{isSound}
 use Rattle.verdict.specs.Verdict.{cleared}
 use Rattle.session.specs.declared.Session.{Session}
 use Rattle.session.specs.declared.Answer.{Answer}
-use Rattle.session.specs.Session.{Effect, feeding, closing}
+use Rattle.session.specs.declared.Step.{Step}
+use Rattle.session.specs.Session.{Effect, Stepped, stepped, feeding, closing}
 use Rattle.records.specs.declared.Record.{Record}
 use Rattle.records.specs.declared.Summary.{Summary}
 use Rattle.records.specs.declared.Change.{Change}
@@ -39,22 +40,21 @@ first-words k n xs =
     taken-few : (n : ℕ) (xs : List ℕ) → length (take n xs) ≤ n
     taken-few n xs = let e = length-take n xs in omega arith
 
-pub fed-parts : (t : Table) (r : Record) (p : ℕ) (h w x o : List ℕ) {z : Session} {a : Answer} {hl xl ol : List ℕ} (m kw kh : ℕ)
-    → z ≡ sessionOf t r → m ≡ min (r .waiting) waitingWords → kw ≡ m → kh ≡ historyWords → length hl ≡ historyWords
-    → _≡_ {A = Effect} (record { answer = a; history = hl; scratch = xl; out = ol })
-    (feeding z (midOf (waitingWords * p) kw w) (midOf (historyWords * p) kh h) x o)
-    → _≡_ {A = Effect} (record { answer = a; history = putMid (historyWords * p) kh h hl; scratch = xl; out = ol }) (fedIn t r p h w x o)
-fed-parts t r p h w x o {z} {a} {hl} {xl} {ol} m kw kh ez em ew eh long e =
+pub fed-parts : (t : Table) (r : Record) (p : ℕ) (h w x o : List ℕ) {a : Step} {hl xl ol : List ℕ} (m kw kh : ℕ)
+    → m ≡ min (r .waiting) waitingWords → kw ≡ m → kh ≡ historyWords → length hl ≡ historyWords
+    → _≡_ {A = Stepped} (record { step = a; history = hl; scratch = xl; out = ol })
+    (stepped (feeding (sessionOf t r) (midOf (waitingWords * p) kw w) (midOf (historyWords * p) kh h) x o))
+    → _≡_ {A = Stepped} (record { step = a; history = putMid (historyWords * p) kh h hl; scratch = xl; out = ol }) (fedIn t r p h w x o)
+fed-parts t r p h w x o {a} {hl} {xl} {ol} m kw kh em ew eh long e =
     let b : midOf (waitingWords * p) kw w ≡ blockOf r p w =
     ap (λ (k : ℕ). take k (drop (waitingWords * p) w)) (ew ∙ em) ∙ first-words (r .waiting) waitingWords (drop (waitingWords * p) w) in
     let c : midOf (historyWords * p) kh h ≡ partOf historyWords p h = ap (λ (k : ℕ). take k (drop (historyWords * p) h)) eh in
-    let q : _≡_ {A = Effect} (record { answer = a; history = hl; scratch = xl; out = ol }) (feeding (sessionOf t r) (blockOf r p w) (partOf historyWords p h) x o) =
-    e ∙ ap (λ (u : Session). feeding u (midOf (waitingWords * p) kw w) (midOf (historyWords * p) kh h) x o) ez
-    ∙ ap₂ (λ (u v : List ℕ). feeding (sessionOf t r) u v x o) b c in
+    let q : _≡_ {A = Stepped} (record { step = a; history = hl; scratch = xl; out = ol }) (stepped (feeding (sessionOf t r) (blockOf r p w) (partOf historyWords p h) x o)) =
+    e ∙ ap₂ (λ (u v : List ℕ). stepped (feeding (sessionOf t r) u v x o)) b c in
     let d : putMid (historyWords * p) kh h hl ≡ pasted (historyWords * p) hl h =
     ap (λ (z : List ℕ). take (historyWords * p) h ++ (hl ++ z)) (drop-drop kh (historyWords * p) h ∙ ap (λ (k : ℕ). drop (historyWords * p + k) h) (eh ∙ sym long)) in
-    (λ i. record { answer = a; history = d i; scratch = xl; out = ol })
-    ∙ ap (λ (f : Effect). record { answer = f .answer; history = pasted (historyWords * p) (f .history) h; scratch = f .scratch; out = f .out }) q
+    (λ i. record { step = a; history = d i; scratch = xl; out = ol })
+    ∙ ap (λ (f : Stepped). record { step = f .step; history = pasted (historyWords * p) (f .history) h; scratch = f .scratch; out = f .out }) q
 
 pub closed-parts : (t : Table) (r : Record) (p : ℕ) (h x o : List ℕ) {z : Session} {a : Answer} {xl ol : List ℕ} (kh : ℕ) → z ≡ sessionOf t r → kh ≡ historyWords
     → _≡_ {A = Effect} (record { answer = a; history = midOf (historyWords * p) kh h; scratch = xl; out = ol }) (closing z (midOf (historyWords * p) kh h) x o)
@@ -64,12 +64,12 @@ closed-parts t r p h x o {z} {a} {xl} {ol} kh ez eh e =
     (e ∙ ap (λ (u : Session). closing u (midOf (historyWords * p) kh h) x o) ez)
 
 -- ---- by the session's number
-pub served-no : (a : Answer) (p from n : ℕ) {r : Turning} → (a .number ≡ 0 → ⊥) → r ≡ notServed (a .number) from n → r ≡ servedBy a p from n
-served-no a p from n z e = e ∙ rw (ne-eqb (a .number) 0 z)
+pub served-no : (a : Step) (r : Record) (p from n : ℕ) {k : Turning} → (a .number ≡ 0 → ⊥) → k ≡ notServed (a .number) from n → k ≡ servedBy a r p from n
+served-no a r p from n z e = e ∙ rw (ne-eqb (a .number) 0 z)
 
-pub served-yes : (a : Answer) (p from n : ℕ) → a .number ≡ 0
-    → _≡_ {A = Turning} (record { number = 0; served = true; place = p; count = a .count; change = record { place = p; seen = a .session .seen; waiting = 0 } }) (servedBy a p from n)
-served-yes a p from n z = rw (eq-eqb (a .number) 0 z)
+pub served-yes : (a : Step) (r : Record) (p from n : ℕ) → a .number ≡ 0
+    → _≡_ {A = Turning} (record { number = 0; served = true; place = p; count = a .count; change = record { place = p; seen = r .seen + r .waiting; waiting = 0 } }) (servedBy a r p from n)
+served-yes a r p from n z = rw (eq-eqb (a .number) 0 z)
 
 pub closed-no : (a : Answer) (i n : ℕ) {r : Closing} → (a .number ≡ 0 → ⊥) → r ≡ notClosed (a .number) n → r ≡ closedBy a i n
 closed-no a i n z e = e ∙ rw (ne-eqb (a .number) 0 z)
@@ -155,13 +155,13 @@ module _ (t : Table) (s : Summary) (from : ℕ) (h w x o : List ℕ) (p : ℕ) (
       (λ j. record { done = e .0 j; history = h; scratch = e .1 j; out = o })
       ∙ rw (eq-eqb of-turn 0 (sym turn-is ∙ z), le-ltb place (s .count) (omega (arith, ep)))
 
-  pub turned-served : {a : Answer} {hl xl ol : List ℕ} {d : Turning} → n ≡ 0 → p < s .count
-      → _≡_ {A = Effect} (record { answer = a; history = hl; scratch = xl; out = ol }) (fedIn t r p h w x o) → d ≡ servedBy a p from (s .count)
+  pub turned-served : {a : Step} {hl xl ol : List ℕ} {d : Turning} → n ≡ 0 → p < s .count
+      → _≡_ {A = Stepped} (record { step = a; history = hl; scratch = xl; out = ol }) (fedIn t r p h w x o) → d ≡ servedBy a r p from (s .count)
       → _≡_ {A = Serving} (record { done = d; history = hl; scratch = xl; out = ol }) (turnWork t s from h w x o)
   unfolding turnWork
   turned-served {hl = hl} {xl = xl} {ol = ol} z l e ed =
       ap (λ (u : Turning). record { done = u; history = hl; scratch = xl; out = ol }) ed
-      ∙ ap (λ (f : Effect). record { done = servedBy (f .answer) p from (s .count); history = f .history; scratch = f .scratch; out = f .out }) e
+      ∙ ap (λ (f : Stepped). record { done = servedBy (f .step) r p from (s .count); history = f .history; scratch = f .scratch; out = f .out }) e
       ∙ ap₂ (λ (u : Record) (k : ℕ). serveWork t u k from (s .count) h w x o) record-is ep
       ∙ rw (eq-eqb of-turn 0 (sym turn-is ∙ z), lt-ltb place (s .count) (omega (arith, ep)))
 
@@ -170,6 +170,9 @@ module _ (t : Table) (s : Summary) (from : ℕ) (h w x o : List ℕ) (p : ℕ) (
 
   pub turned-scratch : n ≡ 0 → scratchWords ≤ length x
   turned-scratch z = turn-fit z .scratch
+
+  pub turned-count : n ≡ 0 → r .seen + r .waiting ≤ maxSeen
+  turned-count z = turn-fit z .count
 
   pub servable : n ≡ 0 → p < s .count → Servable p h w
   servable z l =

@@ -25,11 +25,11 @@ use Rattle.records.proofs.Changes.{seen-at}
 use Rattle.scheduler.specs.Rotation.{waitsAt, nextWaiting}
 use Rattle.scheduler.specs.Scheduler.{partOf, pasted, sessionOf, blockOf, fits, unfit, leaveRows, turnRows, closeRows, Left, leaveNumber, leaveEffect, Turned, fedAt, served, notTurned, turnNumber, turnEffect, Closed, closedAt, closeNumber, closeEffect}
 use Rattle.scheduler.specs.Work.{nextPlace, misfits, toldOf, unchanged, leaveWork, Serving, notServed, servedBy, serveWork, idleWork, turnWork, Ending, finishWork, closeWork}
-use Rattle.session.specs.Session.{Effect, refused, feeding, closing}
+use Rattle.session.specs.Session.{Effect, stepped, refused, feeding, closing}
 use Rattle.session.proofs.Effects.{feed-number, feed-refused, close-number, close-refused}
 use Rattle.verdict.specs.Verdict.{cleared}
 use Rattle.scheduler.proofs.Parts.{part-length}
-use Rattle.scheduler.proofs.Accepted.{fed-accepted, fed-seen, closed-accepted, closed-seen}
+use Rattle.scheduler.proofs.Accepted.{fed-accepted, closed-accepted, closed-seen}
 use Rattle.scheduler.proofs.Answers.{told-none}
 use Rattle.scheduler.proofs.Fits.{leave-fits, TurnFits, turn-fits, close-fits}
 use Rattle.scheduler.proofs.Search.{next-ext}
@@ -186,21 +186,12 @@ module _ (t : Table) (rs : List Record) (from : ℕ) (h w x o : List ℕ) where
       → turned (serveWork t (recordAt rs s) s from (length rs) h w x o) ≡ served t rs s h w x o
   turn-served z l =
       rw (eq-eqb (fedAt t rs s h w x o .answer .number) 0 (fed-accepted t rs s h w x o z l))
-      (λ j. record {
-        number = 0;
-        served = true;
-        place = s;
-        count = fedAt t rs s h w x o .answer .count;
-        records = withWaiting (withSeen rs s (fed-seen t rs s h w x o z l j)) s 0;
-        history = pasted (historyWords * s) (fedAt t rs s h w x o .history) h;
-        scratch = fedAt t rs s h w x o .scratch;
-        out = fedAt t rs s h w x o .out;
-      })
+      refl
 
   turn-unsound : isSound t ≡ false → historyWords * length rs ≤ length h → s < length rs
       → turned (serveWork t (recordAt rs s) s from (length rs) h w x o) ≡ notTurned UNSOUND rs from h x o
   turn-unsound unsound room l =
-      ap (λ (e : Effect). turned (record { done = servedBy (e .answer) s from (length rs); history = pasted (historyWords * s) (e .history) h; scratch = e .scratch; out = e .out }))
+      ap (λ (e : Effect). turned (record { done = servedBy (stepped e .step) (recordAt rs s) s from (length rs); history = pasted (historyWords * s) (e .history) h; scratch = e .scratch; out = e .out }))
       (feed-unsound t (recordAt rs s) (partOf historyWords s h) x o unsound (blockOf (recordAt rs s) s w))
       ∙ (λ j. record {
         number = UNSOUND;

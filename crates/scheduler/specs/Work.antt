@@ -13,7 +13,8 @@ use Rattle.table.specs.declared.Table.{Table}
 use Rattle.table.specs.Sound.{isSound}
 use Rattle.verdict.specs.Verdict.{cleared}
 use Rattle.session.specs.declared.Answer.{Answer}
-use Rattle.session.specs.Session.{Effect, feeding, closing}
+use Rattle.session.specs.declared.Step.{Step}
+use Rattle.session.specs.Session.{Effect, Stepped, stepped, feeding, closing}
 use Rattle.records.specs.declared.Record.{Record}
 use Rattle.records.specs.declared.Summary.{Summary}
 use Rattle.records.specs.declared.Change.{Change}
@@ -66,22 +67,22 @@ abbrev pub notServed : ℕ → ℕ → ℕ → Turning
 notServed number from n = record { number = number; served = false; place = from; count = 0; change = unchanged n }
 
 -- the session of record r, at place p, is fed the block that waits
-abbrev pub fedIn : Table → Record → ℕ → List ℕ → List ℕ → List ℕ → List ℕ → Effect
+abbrev pub fedIn : Table → Record → ℕ → List ℕ → List ℕ → List ℕ → List ℕ → Stepped
 fedIn t r p h w x o =
-    let e = feeding (sessionOf t r) (blockOf r p w) (partOf historyWords p h) x o in
-    record { answer = e .answer; history = pasted (historyWords * p) (e .history) h; scratch = e .scratch; out = e .out }
+    let e = stepped (feeding (sessionOf t r) (blockOf r p w) (partOf historyWords p h) x o) in
+    record { step = e .step; history = pasted (historyWords * p) (e .history) h; scratch = e .scratch; out = e .out }
 
 -- what a turn answers by what the session has answered
-abbrev pub servedBy : Answer → ℕ → ℕ → ℕ → Turning
-servedBy a p from n =
+abbrev pub servedBy : Step → Record → ℕ → ℕ → ℕ → Turning
+servedBy a r p from n =
     pick (eqb (a .number) 0)
-    (record { number = 0; served = true; place = p; count = a .count; change = record { place = p; seen = a .session .seen; waiting = 0 } })
+    (record { number = 0; served = true; place = p; count = a .count; change = record { place = p; seen = r .seen + r .waiting; waiting = 0 } })
     (notServed (a .number) from n)
 
 abbrev pub serveWork : Table → Record → ℕ → ℕ → ℕ → List ℕ → List ℕ → List ℕ → List ℕ → Serving
 serveWork t r p from n h w x o =
     let e = fedIn t r p h w x o in
-    record { done = servedBy (e .answer) p from n; history = e .history; scratch = e .scratch; out = e .out }
+    record { done = servedBy (e .step) r p from n; history = e .history; scratch = e .scratch; out = e .out }
 
 -- nobody waits
 abbrev pub idleWork : Table → ℕ → ℕ → List ℕ → List ℕ → List ℕ → Serving

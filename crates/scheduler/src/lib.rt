@@ -3,7 +3,7 @@
 ghost use mathlib.Core.Path.{_≡_};
 ghost use Prim.Native.Nat.{_+_, _*_, _≤_, _<_};
 ghost use lib.ListN.{length};
-ghost use Rattle.limits.specs.Limits.{maxList, historyWords, scratchWords};
+ghost use Rattle.limits.specs.Limits.{maxList, maxSeen, historyWords, scratchWords};
 ghost use Rattle.refusals.specs.Numbers.{UNSOUND};
 ghost use Rattle.lists.specs.Choice.{pick, first};
 ghost use Rattle.table.specs.Sound.{isSound};
@@ -25,6 +25,7 @@ use records::Record;
 use records::Summary;
 use session::Answer;
 use session::Session;
+use session::Step;
 use table::Table;
 
 // The number of a refusal or 0, and what the list gets.
@@ -274,15 +275,17 @@ fn feed_at(
     waiting: &[u32],
     scratch: &mut [u64],
     out: &mut [u64],
-) -> Answer
+) -> Step
     requires { ⌜ Servable p (now history) (now waiting) ⌝ }
-    ensures { λ a. ⌜ record { answer = a; history = now (history .exit); scratch = now (scratch .exit); out = now (out .exit) } ≡ fedIn t r p (now (history .entry)) (now (waiting .entry)) (now (scratch .entry)) (now (out .entry)) ⌝ }
+    ensures { λ a. ⌜ record { step = a; history = now (history .exit); scratch = now (scratch .exit); out = now (out .exit) } ≡ fedIn t r p (now (history .entry)) (now (waiting .entry)) (now (scratch .entry)) (now (out .entry)) ⌝ }
 {
     let w = WAITING_WORDS * p;
     let h = HISTORY_WORDS * p;
     let k = lists::lesser(r.waiting, WAITING_WORDS);
-    let session = Session::with(t, r.rule, r.seen);
-    session.feed(
+    session::feed_rule(
+        t,
+        r.rule,
+        r.seen,
         &waiting[w..w + k],
         &mut history[h..h + HISTORY_WORDS],
         scratch,
@@ -291,15 +294,16 @@ fn feed_at(
 }
 
 // What a turn answers by what the session has answered: it refuses a table that is not sound.
-fn served_by(a: Answer, p: usize, from: usize, n: usize) -> Turning
-    ensures { λ r. ⌜ r ≡ servedBy a p from n ⌝ }
+fn served_by(a: Step, r: Record, p: usize, from: usize, n: usize) -> Turning
+    requires { ⌜ r .seen + r .waiting ≤ maxSeen ⌝ }
+    ensures { λ k. ⌜ k ≡ servedBy a r p from n ⌝ }
 {
     if a.number != 0 {
         return not_served(a.number, from, n);
     }
     let change = Change {
         place: p,
-        seen: a.session.seen,
+        seen: r.seen + r.waiting as u64,
         waiting: 0,
     };
     Turning {
@@ -344,7 +348,7 @@ pub fn turn(
         return pass_by(t, from, n, scratch);
     }
     let a = feed_at(t, r, p, history, waiting, scratch, out);
-    served_by(a, p, from, n)
+    served_by(a, r, p, from, n)
 }
 
 // ---- a close

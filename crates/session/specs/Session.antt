@@ -17,6 +17,7 @@ use Rattle.verdict.specs.Verdict.{cleared}
 use Rattle.session.specs.declared.Session.{Session}
 use Rattle.session.specs.declared.Opening.{Opening}
 use Rattle.session.specs.declared.Answer.{Answer}
+use Rattle.session.specs.declared.Step.{Step}
 
 -- ---- the session
 abbrev pub sessionWith : Table → ℕ → ℕ → Session
@@ -43,6 +44,16 @@ pub record Effect : Type 0 where
   pub history : List ℕ
   pub scratch : List ℕ
   pub out : List ℕ
+
+-- the same without the session that is handed back
+pub record Stepped : Type 0 where
+  pub step : Step
+  pub history : List ℕ
+  pub scratch : List ℕ
+  pub out : List ℕ
+
+abbrev pub stepped : Effect → Stepped
+stepped e = record { step = record { number = e .answer .number; count = e .answer .count }; history = e .history; scratch = e .scratch; out = e .out }
 
 -- a refused call answers its number and changes nothing
 abbrev pub refused : ℕ → Session → List ℕ → List ℕ → List ℕ → Effect

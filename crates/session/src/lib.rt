@@ -7,7 +7,7 @@ ghost use Rattle.limits.specs.Limits.{maxBlock, maxSeen};
 ghost use Rattle.lists.specs.Choice.{first};
 ghost use Rattle.table.specs.Nodes.{formulaAt, waitOf};
 ghost use Rattle.verdict.specs.Verdict.{cleared};
-ghost use Rattle.session.specs.Session.{sessionWith, noSession, withSeen, verdictWords, opening, feedRows, fed, feeding, closeRows, closed, closingBy, closing, closingOld};
+ghost use Rattle.session.specs.Session.{sessionWith, noSession, withSeen, verdictWords, opening, feedRows, fed, feeding, stepped, closeRows, closed, closingBy, closing, closingOld};
 ghost use Rattle.session.specs.Code.Steps.{Writable, Feedable, Closable};
 use limits::CLOSE_WORDS;
 use limits::FEED_WORDS;
@@ -35,6 +35,12 @@ pub struct Answer {
     pub number: u8,
     pub count: usize,
     pub session: Session,
+}
+
+// The same without a session.
+pub struct Step {
+    pub number: u8,
+    pub count: usize,
 }
 
 impl Session {
@@ -71,23 +77,28 @@ impl Session {
     ) -> Answer
         ensures { λ r. ⌜ record { answer = r; history = now (history .exit); scratch = now (scratch .exit); out = now (out .exit) } ≡ feeding self (now (block .entry)) (now (history .entry)) (now (scratch .entry)) (now (out .entry)) ⌝ }
     {
-        let d = table::delay(self.table, self.rule);
-        let number = feed_number(
-            d.number != 0,
+        let k = feed_rule(
+            self.table,
+            self.rule,
             self.seen,
-            block.len(),
-            history.len(),
-            scratch.len(),
-            out.len(),
+            block,
+            history,
+            scratch,
+            out,
         );
-        if number != 0 {
+        if k.number != 0 {
             return Answer {
-                number,
-                count: 0,
+                number: k.number,
+                count: k.count,
                 session: self,
             };
         }
-        advance(self, d.delay as usize, block, history, scratch, out)
+        let session = with_seen(self, self.seen + block.len() as u64);
+        Answer {
+            number: k.number,
+            count: k.count,
+            session,
+        }
     }
 
     // The verdicts of the states that history still holds, in the first 64 words of out.
@@ -236,22 +247,58 @@ pub fn close_under(
     finish(s, d.delay as usize, history, scratch, out)
 }
 
-// A feed that is accepted; d is the delay.
+// A feed of a rule of a table that has seen so many states: all of it but the session that is handed back, a table and more.
+pub fn feed_rule(
+    t: Table,
+    rule: usize,
+    seen: u64,
+    block: &[u32],
+    history: &mut [u32],
+    scratch: &mut [u64],
+    out: &mut [u64],
+) -> Step
+    ensures { λ r. ⌜ record { step = r; history = now (history .exit); scratch = now (scratch .exit); out = now (out .exit) } ≡ stepped (feeding (sessionWith t rule seen) (now (block .entry)) (now (history .entry)) (now (scratch .entry)) (now (out .entry))) ⌝ }
+{
+    let d = table::delay(t, rule);
+    let number = feed_number(
+        d.number != 0,
+        seen,
+        block.len(),
+        history.len(),
+        scratch.len(),
+        out.len(),
+    );
+    if number != 0 {
+        return Step { number, count: 0 };
+    }
+    let count = advance(
+        t,
+        rule,
+        seen as usize,
+        d.delay as usize,
+        block,
+        history,
+        scratch,
+        out,
+    );
+    Step { number: 0, count }
+}
+
+// A feed that is accepted: the count of verdicts; d is the delay.
 fn advance(
-    s: Session,
+    t: Table,
+    rule: usize,
+    seen: usize,
     d: usize,
     block: &[u32],
     history: &mut [u32],
     scratch: &mut [u64],
     out: &mut [u64],
-) -> Answer
-    requires { ⌜ Feedable s d (now block) (now history) (now scratch) (now out) ⌝ }
-    ensures { λ r. ⌜ record { answer = r; history = now (history .exit); scratch = now (scratch .exit); out = now (out .exit) } ≡ fed d s (now (block .entry)) (now (history .entry)) (now (scratch .entry)) (now (out .entry)) ⌝ }
+) -> usize
+    requires { ⌜ Feedable (sessionWith t rule seen) d (now block) (now history) (now scratch) (now out) ⌝ }
+    ensures { λ r. ⌜ record { answer = record { number = 0; count = r; session = sessionWith t rule (seen + length (now (block .entry))) }; history = now (history .exit); scratch = now (scratch .exit); out = now (out .exit) } ≡ fed d (sessionWith t rule seen) (now (block .entry)) (now (history .entry)) (now (scratch .entry)) (now (out .entry)) ⌝ }
 {
-    let t = s.table;
-    let rule = s.rule;
     let place = t.rules[rule].watched as usize;
-    let seen = s.seen as usize;
     let after = seen + block.len();
     let h = lists::lesser(seen, d);
     let count = lists::over(after, d) - lists::over(seen, d);
@@ -266,12 +313,7 @@ fn advance(
         out,
     );
     keep(history, h, block, lists::lesser(after, d));
-    let session = with_seen(s, after as u64);
-    Answer {
-        number: 0,
-        count,
-        session,
-    }
+    count
 }
 
 // A close that is accepted; d is the delay.

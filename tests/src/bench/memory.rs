@@ -3,10 +3,10 @@ use super::markdown::{number, table};
 use super::runs::{dense, Buffers};
 use super::text;
 use crate::formulas;
-use crate::header::limits::{CLOSE_WORDS, EARLY_SCRATCH_WORDS, FEED_WORDS, HISTORY_WORDS, MAX_BLOCK, MAX_NODES, MAX_TRACE, SCRATCH_WORDS, SESSION_BYTES, TABLE_BYTES};
+use crate::header::limits::{CLOSE_WORDS, EARLY_SCRATCH_WORDS, FEED_WORDS, HISTORY_WORDS, MAX_BLOCK, MAX_NODES, MAX_TRACE, SCRATCH_WORDS, SESSION_BYTES, TABLE_BYTES, WAITING_WORDS};
 use crate::header::refusals::OK;
 use crate::header::whole_words;
-use crate::library::{self, SessionBytes, TableBytes};
+use crate::library::{self, Record, SessionBytes, TableBytes};
 use crate::model::Table;
 use crate::queue::Monitor;
 use crate::random::{self, Random};
@@ -63,12 +63,13 @@ fn under_way(table: &TableBytes, seen: usize) -> (SessionBytes, Buffers) {
 }
 
 /// The stacks of the accepted calls over one table.
-fn stacks_of(t: &Table) -> [Option<usize>; 7] {
+fn stacks_of(t: &Table) -> [Option<usize>; 10] {
     let (states, bytes) = (dense(MAX_TRACE), t.bytes());
     let book = random::book(&mut Random(1), t);
     let (mut session, mut b) = under_way(&bytes, 5000);
     let (mut ended, mut table, mut opened, mut out) = (session, bytes, session, [0; whole_words(MAX_TRACE)]);
     let mut wide = vec![0; EARLY_SCRATCH_WORDS];
+    let (mut list, mut waiting) = ([Record { rule: 0, seen: 5000, waiting: 0 }], [0; WAITING_WORDS]);
     [
         stack_of(|| assert_eq!(library::read(&book, &mut table), (OK, 0))),
         stack_of(|| assert_eq!(library::simplify(&mut table), OK)),
@@ -77,6 +78,9 @@ fn stacks_of(t: &Table) -> [Option<usize>; 7] {
         stack_of(|| assert_eq!(library::close(&mut ended, &b.history, &mut b.scratch, &mut b.out).0, OK)),
         stack_of(|| assert_eq!(library::verdicts(&bytes, 0, &states, &mut b.scratch, &mut out), OK)),
         stack_of(|| assert_eq!(library::early(&bytes, 0, &states, 0, &mut wide).0, OK)),
+        stack_of(|| assert_eq!(library::leave(&mut list, &bytes, 0, &states[..MAX_BLOCK], &mut waiting), OK)),
+        stack_of(|| assert_eq!(library::turn(&mut list, &bytes, 0, &mut b.history, &waiting, &mut b.scratch, &mut b.out) as u32, 256)),
+        stack_of(|| assert_eq!(library::close_record(&mut list, &bytes, 0, &b.history, &mut b.scratch, &mut b.out).0, OK)),
     ]
 }
 
@@ -84,7 +88,18 @@ fn stacks_of(t: &Table) -> [Option<usize>; 7] {
 fn stacks() -> Vec<Vec<String>> {
     let tables = formulas::all().into_iter().map(|f| f.1).chain([formulas::of_nodes(MAX_NODES as u8), formulas::most_parts().1, formulas::until(0, 4084)]);
     let all: Vec<_> = tables.map(|t| stacks_of(&t)).collect();
-    let names = ["juntreak_read", "juntreak_simplify", "juntreak_open", "juntreak_feed", "juntreak_close", "juntreak_verdicts", "juntreak_early"];
+    let names = [
+        "juntreak_read",
+        "juntreak_simplify",
+        "juntreak_open",
+        "juntreak_feed",
+        "juntreak_close",
+        "juntreak_verdicts",
+        "juntreak_early",
+        "juntreak_leave",
+        "juntreak_turn",
+        "juntreak_close_record",
+    ];
     let largest = |i: usize| all.iter().map(|x| x[i]).max().unwrap();
     names.iter().enumerate().map(|(i, name)| vec![name.to_string(), measured(largest(i))]).collect()
 }

@@ -5,10 +5,14 @@ use Rattle.scheduler.proofs.served_by.Statement.{statement}
 use Rattle.scheduler.proofs.served_by.Tie as tie
 
 returns : tie.Need-returns
-returns c = let a = c .before .before .before .args in served-no (a .a) (a .p) (a .from) (a .n) (c .before .if1 .taken) (c .not-served .ensures)
+returns c =
+    let a = c .before .before .before .args in
+    served-no (a .a) (a .r) (a .p) (a .from) (a .n) (c .before .if1 .taken) (c .not-served .ensures)
 
 returns-2 : tie.Need-returns-2
-returns-2 c = let a = c .before .before .args in served-yes (a .a) (a .p) (a .from) (a .n) (c .if1 .left)
+returns-2 c =
+    let a = c .before .before .before .args in
+    served-yes (a .a) (a .r) (a .p) (a .from) (a .n) (c .before .if1 .left)
 
 pub served-by-spec : {M : Type 1} → statement M
-served-by-spec = tie.close (tie.spec (search needs) returns returns-2)
+served-by-spec = tie.close (tie.spec (search needs) returns (search needs) returns-2)

@@ -1,63 +1,39 @@
--- The number decides, and what it needs is there where it is 0. Assumes nothing.
-use mathlib.Core.Path.{_≡_, sym, ap, _∙_}
-use mathlib.Core.Bool.{Bool, false}
+-- What a feed answers without the session, and the session by its number. Assumes nothing.
+use native.Mathlib.Omega.{arith}
 use borrow.Author.Needs.{needs}
-use lib.ListN.{length}
-use Rattle.limits.specs.Limits.{maxSeen}
-use Rattle.lists.specs.Choice.{first}
-use Rattle.mltl.specs.Mltl.{delay}
-use Rattle.session.specs.Session.{unfit, feedRows, feedNumberBy}
-use Rattle.session.proofs.Answers.{unfit-is, delay-is, fit-is, FeedFits, feed-fits, fed-refused, fed-accepted}
+use Rattle.session.proofs.Handed.{step-refused, step-accepted, step-fits}
 use Rattle.session.proofs.Session.feed.Statement.{statement}
 use Rattle.session.proofs.Session.feed.Tie as tie
 
--- places on the way: the entry, seen from the number; the test's other arm, seen from the advance; the advance, seen from the end
-abbrev start : tie.After-feed-number → tie.Start
-start c = c .before .before .before .before .before .before .before
+-- the entry, seen from the step; the step, seen from its test
+abbrev start : tie.After-feed-rule → tie.Start
+start c = c .before .before .before .before .before .before .before .before
 
-abbrev accepted : tie.After-advance → tie.Else1
-accepted c = c .before .before .before .before .before
+abbrev tried : tie.Then1 → tie.After-feed-rule
+tried c = c .before .before .before .before .before .before .before .before
 
-abbrev advanced : tie.After-slice-known6 → tie.After-advance
-advanced c = c .before .before .before .before .before .before
-
-number : (c : tie.After-feed-number) → c .feed-number .result
-    ≡ feedNumberBy delay maxSeen (start c .args .self) (length (start c .args .block .now)) (length (start c .args .history .now)) (length (start c .args .scratch .now)) (length (start c .args .out .now))
-number c =
-    let a = start c .args in
-    c .feed-number .ensures
-    ∙ ap (λ (b : Bool). first (feedRows maxSeen b (a .self .seen) (length (a .block .now)) (length (a .history .now)) (length (a .scratch .now)) (length (a .out .now))))
-    (unfit-is false (a .self) (c .before .before .delay .ensures))
+abbrev passed : tie.Else1 → tie.After-feed-rule
+passed c = c .before .before .before .before .before .before .before .before
 
 returns : tie.Need-returns
 returns c =
-    let a = start (c .before) .args in
-    fed-refused (a .self) (a .block .now) (a .history .now) (a .scratch .now) (a .out .now) (number (c .before)) (c .if1 .taken)
+    let f = tried c in
+    let a = start f .args in
+    step-refused (a .self) (a .block .now) (a .history .now) (a .scratch .now) (a .out .now) (f .feed-rule .ensures) (c .if1 .taken)
 
--- what the number 0 says
-fits : (c : tie.After-feed-number) → c .feed-number .result ≡ 0 → let a = start c .args in
-    FeedFits maxSeen (unfit (a .self)) (a .self .seen) (length (a .block .now)) (length (a .history .now)) (length (a .scratch .now)) (length (a .out .now))
-fits c z =
-    let a = start c .args in
-    feed-fits maxSeen (unfit (a .self)) (a .self .seen) (length (a .block .now)) (length (a .history .now)) (length (a .scratch .now)) (length (a .out .now)) (sym (number c) ∙ z)
-
-ready : tie.Need-advance-requires
-ready c κs =
-    let e = c .before .before .before .before in
-    let n = e .before in
-    let a = start n .args in
-    let f = fits n (e .if1 .left) in
-    record { fit = fit-is false (a .self) (n .before .before .delay .ensures) (f .fit) (f .history) (f .scratch); few = f .few; seen = f .count; out-words = f .out }
+adds : tie.Need-add-with-seen
+adds c =
+    let f = passed (c .before) in
+    let a = start f .args in
+    let l = step-fits (a .self) (a .block .now) (a .history .now) (a .scratch .now) (a .out .now) (f .feed-rule .ensures) (c .before .if1 .left) in
+    omega arith
 
 returns-2 : tie.Need-returns-2
 returns-2 c =
-    let f = advanced c in
-    let e = accepted f in
-    let n = e .before in
-    let a = start n .args in
-    fed-accepted (a .self) (a .block .now) (a .history .now) (a .scratch .now) (a .out .now) (number n) (e .if1 .left)
-    (delay-is false (a .self) (n .before .before .delay .ensures) (fits n (e .if1 .left) .fit)) (f .advance .ensures)
+    let e = c .before .before in
+    let f = passed e in
+    let a = start f .args in
+    step-accepted (a .self) (a .block .now) (a .history .now) (a .scratch .now) (a .out .now) (f .feed-rule .ensures) (e .if1 .left) (c .with-seen .ensures)
 
 pub feed-spec : {M : Type 1} → statement M
-feed-spec =
-    tie.close (tie.spec (search needs) (search needs) returns (search needs) ready (search needs) (search needs) (search needs) returns-2)
+feed-spec = tie.close (tie.spec (search needs) (search needs) (search needs) (search needs) returns adds (search needs) (search needs) (search needs) (search needs) returns-2)
