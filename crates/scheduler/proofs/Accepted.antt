@@ -106,9 +106,6 @@ module _ (t : Table) (rs : List Record) (s : ℕ) (h w x o : List ℕ)
   pub fed-session : fedAt t rs s h w x o .answer .session ≡ session.sessionWith t (r .rule) (r .seen + r .waiting)
   fed-session = ap (λ (y : session.Effect). y .answer .session) fed-is ∙ ap (λ (k : ℕ). session.sessionWith t (r .rule) (r .seen + k)) waited
 
-  pub fed-seen : fedAt t rs s h w x o .answer .session .seen ≡ r .seen + r .waiting
-  fed-seen = ap (λ (y : Session). y .seen) fed-session
-
   pub fed-words : length (fedAt t rs s h w x o .history) ≡ historyWords
   fed-words =
       let short : d ≤ 4095 = unfit-short false (sessionOf t r) (session-fit t rs fits-table s within) in

@@ -19,7 +19,7 @@ use Rattle.verdict.specs.Verdict.{cleared}
 use Rattle.session.specs.declared.Session.{Session}
 use Rattle.session.specs.declared.Answer.{Answer}
 use Rattle.session.specs.declared.Step.{Step}
-use Rattle.session.specs.Session.{Effect, Stepped, stepped, feeding, closing}
+use Rattle.session.specs.Session.{Effect, StepEffect, stepEffect, feeding, closing}
 use Rattle.records.specs.declared.Record.{Record}
 use Rattle.records.specs.declared.Summary.{Summary}
 use Rattle.records.specs.declared.Change.{Change}
@@ -42,19 +42,19 @@ first-words k n xs =
 
 pub fed-parts : (t : Table) (r : Record) (p : ℕ) (h w x o : List ℕ) {a : Step} {hl xl ol : List ℕ} (m kw kh : ℕ)
     → m ≡ min (r .waiting) waitingWords → kw ≡ m → kh ≡ historyWords → length hl ≡ historyWords
-    → _≡_ {A = Stepped} (record { step = a; history = hl; scratch = xl; out = ol })
-    (stepped (feeding (sessionOf t r) (midOf (waitingWords * p) kw w) (midOf (historyWords * p) kh h) x o))
-    → _≡_ {A = Stepped} (record { step = a; history = putMid (historyWords * p) kh h hl; scratch = xl; out = ol }) (fedIn t r p h w x o)
+    → _≡_ {A = StepEffect} (record { step = a; history = hl; scratch = xl; out = ol })
+    (stepEffect (feeding (sessionOf t r) (midOf (waitingWords * p) kw w) (midOf (historyWords * p) kh h) x o))
+    → _≡_ {A = StepEffect} (record { step = a; history = putMid (historyWords * p) kh h hl; scratch = xl; out = ol }) (fedIn t r p h w x o)
 fed-parts t r p h w x o {a} {hl} {xl} {ol} m kw kh em ew eh long e =
     let b : midOf (waitingWords * p) kw w ≡ blockOf r p w =
     ap (λ (k : ℕ). take k (drop (waitingWords * p) w)) (ew ∙ em) ∙ first-words (r .waiting) waitingWords (drop (waitingWords * p) w) in
     let c : midOf (historyWords * p) kh h ≡ partOf historyWords p h = ap (λ (k : ℕ). take k (drop (historyWords * p) h)) eh in
-    let q : _≡_ {A = Stepped} (record { step = a; history = hl; scratch = xl; out = ol }) (stepped (feeding (sessionOf t r) (blockOf r p w) (partOf historyWords p h) x o)) =
-    e ∙ ap₂ (λ (u v : List ℕ). stepped (feeding (sessionOf t r) u v x o)) b c in
+    let q : _≡_ {A = StepEffect} (record { step = a; history = hl; scratch = xl; out = ol }) (stepEffect (feeding (sessionOf t r) (blockOf r p w) (partOf historyWords p h) x o)) =
+    e ∙ ap₂ (λ (u v : List ℕ). stepEffect (feeding (sessionOf t r) u v x o)) b c in
     let d : putMid (historyWords * p) kh h hl ≡ pasted (historyWords * p) hl h =
     ap (λ (z : List ℕ). take (historyWords * p) h ++ (hl ++ z)) (drop-drop kh (historyWords * p) h ∙ ap (λ (k : ℕ). drop (historyWords * p + k) h) (eh ∙ sym long)) in
     (λ i. record { step = a; history = d i; scratch = xl; out = ol })
-    ∙ ap (λ (f : Stepped). record { step = f .step; history = pasted (historyWords * p) (f .history) h; scratch = f .scratch; out = f .out }) q
+    ∙ ap (λ (f : StepEffect). record { step = f .step; history = pasted (historyWords * p) (f .history) h; scratch = f .scratch; out = f .out }) q
 
 pub closed-parts : (t : Table) (r : Record) (p : ℕ) (h x o : List ℕ) {z : Session} {a : Answer} {xl ol : List ℕ} (kh : ℕ) → z ≡ sessionOf t r → kh ≡ historyWords
     → _≡_ {A = Effect} (record { answer = a; history = midOf (historyWords * p) kh h; scratch = xl; out = ol }) (closing z (midOf (historyWords * p) kh h) x o)
@@ -156,12 +156,12 @@ module _ (t : Table) (s : Summary) (from : ℕ) (h w x o : List ℕ) (p : ℕ) (
       ∙ rw (eq-eqb of-turn 0 (sym turn-is ∙ z), le-ltb place (s .count) (omega (arith, ep)))
 
   pub turned-served : {a : Step} {hl xl ol : List ℕ} {d : Turning} → n ≡ 0 → p < s .count
-      → _≡_ {A = Stepped} (record { step = a; history = hl; scratch = xl; out = ol }) (fedIn t r p h w x o) → d ≡ servedBy a r p from (s .count)
+      → _≡_ {A = StepEffect} (record { step = a; history = hl; scratch = xl; out = ol }) (fedIn t r p h w x o) → d ≡ servedBy a r p from (s .count)
       → _≡_ {A = Serving} (record { done = d; history = hl; scratch = xl; out = ol }) (turnWork t s from h w x o)
   unfolding turnWork
   turned-served {hl = hl} {xl = xl} {ol = ol} z l e ed =
       ap (λ (u : Turning). record { done = u; history = hl; scratch = xl; out = ol }) ed
-      ∙ ap (λ (f : Stepped). record { done = servedBy (f .step) r p from (s .count); history = f .history; scratch = f .scratch; out = f .out }) e
+      ∙ ap (λ (f : StepEffect). record { done = servedBy (f .step) r p from (s .count); history = f .history; scratch = f .scratch; out = f .out }) e
       ∙ ap₂ (λ (u : Record) (k : ℕ). serveWork t u k from (s .count) h w x o) record-is ep
       ∙ rw (eq-eqb of-turn 0 (sym turn-is ∙ z), lt-ltb place (s .count) (omega (arith, ep)))
 

@@ -25,7 +25,7 @@ use Rattle.records.proofs.Changes.{seen-at}
 use Rattle.scheduler.specs.Rotation.{waitsAt, nextWaiting}
 use Rattle.scheduler.specs.Scheduler.{partOf, pasted, sessionOf, blockOf, fits, unfit, leaveRows, turnRows, closeRows, Left, leaveNumber, leaveEffect, Turned, fedAt, served, notTurned, turnNumber, turnEffect, Closed, closedAt, closeNumber, closeEffect}
 use Rattle.scheduler.specs.Work.{nextPlace, misfits, toldOf, unchanged, leaveWork, Serving, notServed, servedBy, serveWork, idleWork, turnWork, Ending, finishWork, closeWork}
-use Rattle.session.specs.Session.{Effect, stepped, refused, feeding, closing}
+use Rattle.session.specs.Session.{Effect, stepEffect, refused, feeding, closing}
 use Rattle.session.proofs.Effects.{feed-number, feed-refused, close-number, close-refused}
 use Rattle.verdict.specs.Verdict.{cleared}
 use Rattle.scheduler.proofs.Parts.{part-length}
@@ -191,7 +191,7 @@ module _ (t : Table) (rs : List Record) (from : ℕ) (h w x o : List ℕ) where
   turn-unsound : isSound t ≡ false → historyWords * length rs ≤ length h → s < length rs
       → turned (serveWork t (recordAt rs s) s from (length rs) h w x o) ≡ notTurned UNSOUND rs from h x o
   turn-unsound unsound room l =
-      ap (λ (e : Effect). turned (record { done = servedBy (stepped e .step) (recordAt rs s) s from (length rs); history = pasted (historyWords * s) (e .history) h; scratch = e .scratch; out = e .out }))
+      ap (λ (e : Effect). turned (record { done = servedBy (stepEffect e .step) (recordAt rs s) s from (length rs); history = pasted (historyWords * s) (e .history) h; scratch = e .scratch; out = e .out }))
       (feed-unsound t (recordAt rs s) (partOf historyWords s h) x o unsound (blockOf (recordAt rs s) s w))
       ∙ (λ j. record {
         number = UNSOUND;

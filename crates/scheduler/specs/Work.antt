@@ -14,7 +14,7 @@ use Rattle.table.specs.Sound.{isSound}
 use Rattle.verdict.specs.Verdict.{cleared}
 use Rattle.session.specs.declared.Answer.{Answer}
 use Rattle.session.specs.declared.Step.{Step}
-use Rattle.session.specs.Session.{Effect, Stepped, stepped, feeding, closing}
+use Rattle.session.specs.Session.{Effect, StepEffect, stepEffect, feeding, closing}
 use Rattle.records.specs.declared.Record.{Record}
 use Rattle.records.specs.declared.Summary.{Summary}
 use Rattle.records.specs.declared.Change.{Change}
@@ -67,9 +67,9 @@ abbrev pub notServed : ℕ → ℕ → ℕ → Turning
 notServed number from n = record { number = number; served = false; place = from; count = 0; change = unchanged n }
 
 -- the session of record r, at place p, is fed the block that waits
-abbrev pub fedIn : Table → Record → ℕ → List ℕ → List ℕ → List ℕ → List ℕ → Stepped
+abbrev pub fedIn : Table → Record → ℕ → List ℕ → List ℕ → List ℕ → List ℕ → StepEffect
 fedIn t r p h w x o =
-    let e = stepped (feeding (sessionOf t r) (blockOf r p w) (partOf historyWords p h) x o) in
+    let e = stepEffect (feeding (sessionOf t r) (blockOf r p w) (partOf historyWords p h) x o) in
     record { step = e .step; history = pasted (historyWords * p) (e .history) h; scratch = e .scratch; out = e .out }
 
 -- what a turn answers by what the session has answered

@@ -1,5 +1,5 @@
 // The scheduler: several rules over one table, served in turn (A9). Its functions take what one pass over the list of records has found, and
-// answer what the list gets: the list itself is walked in crate records alone.
+// answer what the list gets; they do not hold the list.
 ghost use mathlib.Core.Path.{_≡_};
 ghost use Prim.Native.Nat.{_+_, _*_, _≤_, _<_};
 ghost use lib.ListN.{length};

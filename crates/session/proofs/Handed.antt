@@ -7,19 +7,19 @@ use Rattle.limits.specs.Limits.{maxSeen}
 use Rattle.mltl.specs.Mltl.{delay}
 use Rattle.session.specs.declared.Session.{Session}
 use Rattle.session.specs.declared.Step.{Step}
-use Rattle.session.specs.Session.{Effect, Stepped, stepped, unfit, withSeen, feeding}
+use Rattle.session.specs.Session.{Effect, StepEffect, stepEffect, unfit, withSeen, feeding}
 use Rattle.session.proofs.Effects.{feed-accepted, feed-refused}
 use Rattle.session.proofs.Answers.{feed-fits}
 
 module _ (s : Session) (block h x o : List ℕ) {k : Step} {h′ x′ o′ : List ℕ}
-    (e : _≡_ {A = Stepped} (record { step = k; history = h′; scratch = x′; out = o′ }) (stepped (feeding s block h x o))) where
+    (e : _≡_ {A = StepEffect} (record { step = k; history = h′; scratch = x′; out = o′ }) (stepEffect (feeding s block h x o))) where
   step-number : k .number ≡ feeding s block h x o .answer .number
-  step-number = ap (λ (z : Stepped). z .step .number) e
+  step-number = ap (λ (z : StepEffect). z .step .number) e
 
   with-session : {z : Session} → z ≡ feeding s block h x o .answer .session
       → _≡_ {A = Effect} (record { answer = record { number = k .number; count = k .count; session = z }; history = h′; scratch = x′; out = o′ }) (feeding s block h x o)
   with-session {z} q =
-      ap (λ (y : Stepped). record { answer = record { number = y .step .number; count = y .step .count; session = z }; history = y .history; scratch = y .scratch; out = y .out }) e
+      ap (λ (y : StepEffect). record { answer = record { number = y .step .number; count = y .step .count; session = z }; history = y .history; scratch = y .scratch; out = y .out }) e
       ∙ ap (λ (y : Session). record {
         answer = record { number = feeding s block h x o .answer .number; count = feeding s block h x o .answer .count; session = y };
         history = feeding s block h x o .history;

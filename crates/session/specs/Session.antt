@@ -46,14 +46,14 @@ pub record Effect : Type 0 where
   pub out : List ℕ
 
 -- the same without the session that is handed back
-pub record Stepped : Type 0 where
+pub record StepEffect : Type 0 where
   pub step : Step
   pub history : List ℕ
   pub scratch : List ℕ
   pub out : List ℕ
 
-abbrev pub stepped : Effect → Stepped
-stepped e = record { step = record { number = e .answer .number; count = e .answer .count }; history = e .history; scratch = e .scratch; out = e .out }
+abbrev pub stepEffect : Effect → StepEffect
+stepEffect e = record { step = record { number = e .answer .number; count = e .answer .count }; history = e .history; scratch = e .scratch; out = e .out }
 
 -- a refused call answers its number and changes nothing
 abbrev pub refused : ℕ → Session → List ℕ → List ℕ → List ℕ → Effect

@@ -7,7 +7,7 @@ ghost use Rattle.limits.specs.Limits.{maxBlock, maxSeen};
 ghost use Rattle.lists.specs.Choice.{first};
 ghost use Rattle.table.specs.Nodes.{formulaAt, waitOf};
 ghost use Rattle.verdict.specs.Verdict.{cleared};
-ghost use Rattle.session.specs.Session.{sessionWith, noSession, withSeen, verdictWords, opening, feedRows, fed, feeding, stepped, closeRows, closed, closingBy, closing, closingOld};
+ghost use Rattle.session.specs.Session.{sessionWith, noSession, withSeen, verdictWords, opening, feedRows, fed, feeding, stepEffect, closeRows, closed, closingBy, closing, closingOld};
 ghost use Rattle.session.specs.Code.Steps.{Writable, Feedable, Closable};
 use limits::CLOSE_WORDS;
 use limits::FEED_WORDS;
@@ -257,7 +257,7 @@ pub fn feed_rule(
     scratch: &mut [u64],
     out: &mut [u64],
 ) -> Step
-    ensures { λ r. ⌜ record { step = r; history = now (history .exit); scratch = now (scratch .exit); out = now (out .exit) } ≡ stepped (feeding (sessionWith t rule seen) (now (block .entry)) (now (history .entry)) (now (scratch .entry)) (now (out .entry))) ⌝ }
+    ensures { λ r. ⌜ record { step = r; history = now (history .exit); scratch = now (scratch .exit); out = now (out .exit) } ≡ stepEffect (feeding (sessionWith t rule seen) (now (block .entry)) (now (history .entry)) (now (scratch .entry)) (now (out .entry))) ⌝ }
 {
     let d = table::delay(t, rule);
     let number = feed_number(

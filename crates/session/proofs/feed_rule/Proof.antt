@@ -7,7 +7,7 @@ use Rattle.limits.specs.Limits.{maxSeen}
 use Rattle.lists.specs.Choice.{first}
 use Rattle.mltl.specs.Mltl.{delay}
 use Rattle.session.specs.declared.Session.{Session}
-use Rattle.session.specs.Session.{sessionWith, stepped, unfit, feedRows, feedNumberBy}
+use Rattle.session.specs.Session.{sessionWith, stepEffect, unfit, feedRows, feedNumberBy}
 use Rattle.session.proofs.Answers.{unfit-is, delay-is, fit-is, FeedFits, feed-fits, fed-refused, fed-accepted}
 use Rattle.session.proofs.feed_rule.Statement.{statement}
 use Rattle.session.proofs.feed_rule.Tie as tie
@@ -37,7 +37,7 @@ returns : tie.Need-returns
 returns c =
     let s = start (c .before) in
     let a = s .args in
-    ap stepped (fed-refused (session s) (a .block .now) (a .history .now) (a .scratch .now) (a .out .now) (number (c .before)) (c .if1 .taken))
+    ap stepEffect (fed-refused (session s) (a .block .now) (a .history .now) (a .scratch .now) (a .out .now) (number (c .before)) (c .if1 .taken))
 
 -- what the number 0 says
 fits : (c : tie.After-feed-number) → c .feed-number .result ≡ 0 → let a = start c .args in
@@ -60,7 +60,7 @@ returns-2 c =
     let n = e .before in
     let s = start n in
     let a = s .args in
-    ap stepped (fed-accepted (session s) (a .block .now) (a .history .now) (a .scratch .now) (a .out .now) (number n) (e .if1 .left)
+    ap stepEffect (fed-accepted (session s) (a .block .now) (a .history .now) (a .scratch .now) (a .out .now) (number n) (e .if1 .left)
     (delay-is false (session s) (n .before .before .delay .ensures) (fits n (e .if1 .left) .fit)) (f .advance .ensures))
 
 pub feed-rule-spec : {M : Type 1} → statement M
