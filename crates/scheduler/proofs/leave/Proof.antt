@@ -1,5 +1,7 @@
 -- By the number. Assumes nothing.
 use native.Mathlib.Omega.{arith}
+use lib.ListN.{length}
+use Rattle.scheduler.proofs.Fits.{LeaveFits}
 use Rattle.scheduler.proofs.Answers.{left-no, left-yes, left-fits}
 use borrow.Author.Needs.{needs}
 use Rattle.scheduler.proofs.leave.Statement.{statement}
@@ -15,30 +17,23 @@ returns c =
     left-no (a .t) (a .s) (a .i) (a .block .now) (a .waiting .now) (r .result) (b .result) (m .result) (k .told .result) (r .ensures) (b .ensures) (m .ensures) (k .told .ensures)
     (c .before .if1 .taken) (c .no-change .ensures)
 
-mul-put-block : tie.Need-mul-put-block
-mul-put-block c =
+-- what the number 0 says
+fits : (c : tie.After-put-block-arg) → let k = c .before .before in let a = k .before .before .before .before .before .before .before .args in
+    LeaveFits (k .before .before .misfit .result) (a .s .count) (k .before .before .before .record-at .result) (a .i) (length (a .block .now)) (length (a .waiting .now))
+fits c =
     let k = c .before .before in
     let a = k .before .before .before .before .before .before .before .args in
     let r = k .before .before .before .record-at in
     let b = k .before .before .misfit in
     let m = k .before .leave-number in
-    let f = left-fits (a .t) (a .s) (a .i) (a .block .now) (a .waiting .now) (r .result) (b .result) (m .result) (k .told .result) (r .ensures) (b .ensures) (m .ensures) (k .told .ensures) (c .before .if1 .left) in
-    let g = f .short in
-    let h = f .within in
-    record { fits = omega arith }
+    left-fits (a .t) (a .s) (a .i) (a .block .now) (a .waiting .now) (r .result) (b .result) (m .result) (k .told .result) (r .ensures) (b .ensures) (m .ensures) (k .told .ensures)
+    (c .before .if1 .left)
+
+mul-put-block : tie.Need-mul-put-block
+mul-put-block c = let f = fits c in let g = f .short in let h = f .within in record { fits = omega arith }
 
 put-block-requires : tie.Need-put-block-requires
-put-block-requires c κs =
-    let k = c .before .before in
-    let a = k .before .before .before .before .before .before .before .args in
-    let r = k .before .before .before .record-at in
-    let b = k .before .before .misfit in
-    let m = k .before .leave-number in
-    let f = left-fits (a .t) (a .s) (a .i) (a .block .now) (a .waiting .now) (r .result) (b .result) (m .result) (k .told .result) (r .ensures) (b .ensures) (m .ensures) (k .told .ensures) (c .before .if1 .left) in
-    let g = f .room in
-    let h = f .within in
-    let n = f .few in
-    omega arith
+put-block-requires c κs = let f = fits c in let g = f .room in let h = f .within in let n = f .few in omega arith
 
 returns-2 : tie.Need-returns-2
 returns-2 c =
