@@ -106,10 +106,16 @@ zeros-before k x z e h q =
     ap (λ (y : List ℕ). putMid 0 k x y) (q ∙ ap (λ (j : ℕ). replicate j 0) l) ∙ ap (λ (j : ℕ). replicate scratchWords 0 ++ drop j x) e
 
 -- ---- leaving a block
-module _ (t : Table) (s : Summary) (i : ℕ) (block w : List ℕ) (r : Record) (b : Bool) (m n : ℕ) (er : r ≡ recordAt (s .records) i)
-    (eb : b ≡ misfits (t .«rule_count») s) (em : m ≡ first (leaveRows b (s .count) r i (length block) (length w))) (en : n ≡ toldOf t m) where
+-- what is known where the number n is told
+pub record LeaveTried (t : Table) (s : Summary) (i : ℕ) (block w : List ℕ) (r : Record) (b : Bool) (m n : ℕ) : Type 0 where
+  pub found : r ≡ recordAt (s .records) i
+  pub bad : b ≡ misfits (t .«rule_count») s
+  pub rows : m ≡ first (leaveRows b (s .count) r i (length block) (length w))
+  pub number : n ≡ toldOf t m
+
+module _ {t : Table} {s : Summary} {i : ℕ} {block w : List ℕ} {r : Record} {b : Bool} {m n : ℕ} (g : LeaveTried t s i block w r b m n) where
   leave-is : n ≡ leaveNumberIn t s i (length block) (length w)
-  leave-is = en ∙ ap (toldOf t) (em ∙ ap₂ (λ (b : Bool) (r : Record). first (leaveRows b (s .count) r i (length block) (length w))) eb er)
+  leave-is = (g .number) ∙ ap (toldOf t) ((g .rows) ∙ ap₂ (λ (b : Bool) (r : Record). first (leaveRows b (s .count) r i (length block) (length w))) (g .bad) (g .found))
 
   pub left-no : {c : Change} → (n ≡ 0 → ⊥) → c ≡ unchanged (s .count)
       → _≡_ {A = Stored} (record { done = record { number = n; change = c }; waiting = w }) (leaveWork t s i block w)
@@ -120,26 +126,31 @@ module _ (t : Table) (s : Summary) (i : ℕ) (block w : List ℕ) (r : Record) (
       → _≡_ {A = Stored} (record { done = record { number = 0; change = record { place = i; seen = r .seen; waiting = length block } }; waiting = z }) (leaveWork t s i block w)
   unfolding leaveWork
   left-yes k e =
-      (λ j. record { done = record { number = 0; change = record { place = i; seen = er j .seen; waiting = length block } }; waiting = e j }) ∙ rw (← leave-is, eq-eqb n 0 k)
+      (λ j. record { done = record { number = 0; change = record { place = i; seen = (g .found) j .seen; waiting = length block } }; waiting = e j }) ∙ rw (← leave-is, eq-eqb n 0 k)
 
   pub left-fits : n ≡ 0 → LeaveFits b (s .count) r i (length block) (length w)
-  left-fits k = leave-fits b (s .count) r i (length block) (length w) (sym em ∙ told-none t m (sym en ∙ k))
+  left-fits k = leave-fits b (s .count) r i (length block) (length w) (sym (g .rows) ∙ told-none t m (sym (g .number) ∙ k))
 
 -- ---- a turn
-module _ (t : Table) (s : Summary) (from : ℕ) (h w x o : List ℕ) (p : ℕ) (r : Record) (b : Bool) (n : ℕ) (ep : p ≡ nextPlace (s .records) (s .count) from)
-    (er : r ≡ recordAt (s .records) p) (eb : b ≡ misfits (t .«rule_count») s)
-    (en : n ≡ first (turnRows b (s .count) r (length h) (length w) (length x) (length o))) where
-  abbrev place : ℕ
-  place = nextPlace (s .records) (s .count) from
+-- what is known where the number n is found
+pub record TurnTried (t : Table) (s : Summary) (from : ℕ) (h w x o : List ℕ) (p : ℕ) (r : Record) (b : Bool) (n : ℕ) : Type 0 where
+  pub place : p ≡ nextPlace (s .records) (s .count) from
+  pub found : r ≡ recordAt (s .records) p
+  pub bad : b ≡ misfits (t .«rule_count») s
+  pub number : n ≡ first (turnRows b (s .count) r (length h) (length w) (length x) (length o))
 
-  record-is : r ≡ recordAt (s .records) place
-  record-is = er ∙ ap (recordAt (s .records)) ep
+module _ {t : Table} {s : Summary} {from : ℕ} {h w x o : List ℕ} {p : ℕ} {r : Record} {b : Bool} {n : ℕ} (g : TurnTried t s from h w x o p r b n) where
+  abbrev next-place : ℕ
+  next-place = nextPlace (s .records) (s .count) from
+
+  record-is : r ≡ recordAt (s .records) next-place
+  record-is = (g .found) ∙ ap (recordAt (s .records)) (g .place)
 
   abbrev of-turn : ℕ
-  of-turn = first (turnRows (misfits (t .«rule_count») s) (s .count) (recordAt (s .records) place) (length h) (length w) (length x) (length o))
+  of-turn = first (turnRows (misfits (t .«rule_count») s) (s .count) (recordAt (s .records) next-place) (length h) (length w) (length x) (length o))
 
   turn-is : n ≡ of-turn
-  turn-is = en ∙ ap₂ (λ (b : Bool) (r : Record). first (turnRows b (s .count) r (length h) (length w) (length x) (length o))) eb record-is
+  turn-is = (g .number) ∙ ap₂ (λ (b : Bool) (r : Record). first (turnRows b (s .count) r (length h) (length w) (length x) (length o))) (g .bad) record-is
 
   pub turned-no : {k : ℕ} {d : Turning} → (n ≡ 0 → ⊥) → k ≡ toldOf t n → d ≡ notServed k from (s .count)
       → _≡_ {A = Serving} (record { done = d; history = h; scratch = x; out = o }) (turnWork t s from h w x o)
@@ -153,7 +164,7 @@ module _ (t : Table) (s : Summary) (from : ℕ) (h w x o : List ℕ) (p : ℕ) (
   unfolding turnWork
   turned-idle z l e =
       (λ j. record { done = e .0 j; history = h; scratch = e .1 j; out = o })
-      ∙ rw (eq-eqb of-turn 0 (sym turn-is ∙ z), le-ltb place (s .count) (omega (arith, ep)))
+      ∙ rw (eq-eqb of-turn 0 (sym turn-is ∙ z), le-ltb next-place (s .count) (omega (arith, (g .place))))
 
   pub turned-served : {a : Step} {hl xl ol : List ℕ} {d : Turning} → n ≡ 0 → p < s .count
       → _≡_ {A = StepEffect} (record { step = a; history = hl; scratch = xl; out = ol }) (fedIn t r p h w x o) → d ≡ servedBy a r p from (s .count)
@@ -162,11 +173,11 @@ module _ (t : Table) (s : Summary) (from : ℕ) (h w x o : List ℕ) (p : ℕ) (
   turned-served {hl = hl} {xl = xl} {ol = ol} z l e ed =
       ap (λ (u : Turning). record { done = u; history = hl; scratch = xl; out = ol }) ed
       ∙ ap (λ (f : StepEffect). record { done = servedBy (f .step) r p from (s .count); history = f .history; scratch = f .scratch; out = f .out }) e
-      ∙ ap₂ (λ (u : Record) (k : ℕ). serveWork t u k from (s .count) h w x o) record-is ep
-      ∙ rw (eq-eqb of-turn 0 (sym turn-is ∙ z), lt-ltb place (s .count) (omega (arith, ep)))
+      ∙ ap₂ (λ (u : Record) (k : ℕ). serveWork t u k from (s .count) h w x o) record-is (g .place)
+      ∙ rw (eq-eqb of-turn 0 (sym turn-is ∙ z), lt-ltb next-place (s .count) (omega (arith, (g .place))))
 
   turn-fit : n ≡ 0 → TurnFits b (s .count) r (length h) (length w) (length x) (length o)
-  turn-fit z = turn-fits b (s .count) r (length h) (length w) (length x) (length o) (sym en ∙ z)
+  turn-fit z = turn-fits b (s .count) r (length h) (length w) (length x) (length o) (sym (g .number) ∙ z)
 
   pub turned-scratch : n ≡ 0 → scratchWords ≤ length x
   turned-scratch z = turn-fit z .scratch
@@ -183,13 +194,18 @@ module _ (t : Table) (s : Summary) (from : ℕ) (h w x o : List ℕ) (p : ℕ) (
       record { place = omega arith; history-words = omega arith; waiting-words = omega arith }
 
 -- ---- a close
-module _ (t : Table) (s : Summary) (i : ℕ) (h x o : List ℕ) (r : Record) (b : Bool) (n : ℕ) (er : r ≡ recordAt (s .records) i)
-    (eb : b ≡ misfits (t .«rule_count») s) (en : n ≡ first (closeRows b (s .count) r i (length h) (length x) (length o))) where
+-- what is known where the number n is found
+pub record CloseTried (t : Table) (s : Summary) (i : ℕ) (h x o : List ℕ) (r : Record) (b : Bool) (n : ℕ) : Type 0 where
+  pub found : r ≡ recordAt (s .records) i
+  pub bad : b ≡ misfits (t .«rule_count») s
+  pub number : n ≡ first (closeRows b (s .count) r i (length h) (length x) (length o))
+
+module _ {t : Table} {s : Summary} {i : ℕ} {h x o : List ℕ} {r : Record} {b : Bool} {n : ℕ} (g : CloseTried t s i h x o r b n) where
   abbrev of-close : ℕ
   of-close = first (closeRows (misfits (t .«rule_count») s) (s .count) (recordAt (s .records) i) i (length h) (length x) (length o))
 
   close-is : n ≡ of-close
-  close-is = en ∙ ap₂ (λ (b : Bool) (r : Record). first (closeRows b (s .count) r i (length h) (length x) (length o))) eb er
+  close-is = (g .number) ∙ ap₂ (λ (b : Bool) (r : Record). first (closeRows b (s .count) r i (length h) (length x) (length o))) (g .bad) (g .found)
 
   pub ended-no : {k : ℕ} {d : Closing} → (n ≡ 0 → ⊥) → k ≡ toldOf t n → d ≡ notClosed k (s .count)
       → _≡_ {A = Ending} (record { done = d; scratch = x; out = o }) (closeWork t s i h x o)
@@ -204,12 +220,12 @@ module _ (t : Table) (s : Summary) (i : ℕ) (h x o : List ℕ) (r : Record) (b 
   unfolding closeWork
   ended-yes {xl = xl} {ol = ol} z e ed =
       ap (λ (u : Closing). record { done = u; scratch = xl; out = ol }) ed
-      ∙ ap (λ (f : Effect). record { done = closedBy (f .answer) i (s .count); scratch = f .scratch; out = f .out }) (e ∙ ap (λ (u : Record). closedIn t u i h x o) er)
+      ∙ ap (λ (f : Effect). record { done = closedBy (f .answer) i (s .count); scratch = f .scratch; out = f .out }) (e ∙ ap (λ (u : Record). closedIn t u i h x o) (g .found))
       ∙ rw (eq-eqb of-close 0 (sym close-is ∙ z))
 
   pub endable : n ≡ 0 → Endable i h
   endable z =
-      let f = close-fits b (s .count) r i (length h) (length x) (length o) (sym en ∙ z) in
+      let f = close-fits b (s .count) r i (length h) (length x) (length o) (sym (g .number) ∙ z) in
       let a : s .count ≤ maxList = f .short in
       let c : historyWords * s .count ≤ length h = f .history in
       let d : i < s .count = f .within in

@@ -62,9 +62,6 @@ module _ (w n : ℕ) (xs : List ℕ) (room : w * n ≤ length xs) (i : ℕ) (wit
     fits : w * i + length ys ≤ length xs
     fits = omega (arith, part-below w i n within)
 
-    pub part-kept : length (pasted (w * i) ys xs) ≡ length xs
-    part-kept = length-pasted (w * i) ys xs fits
-
     pub part-in : take (length ys) (partOf w i (pasted (w * i) ys xs)) ≡ ys
     part-in = take-take (length ys) w (drop (w * i) (pasted (w * i) ys xs)) small ∙ pasted-in (w * i) ys xs fits
 

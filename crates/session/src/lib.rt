@@ -247,7 +247,7 @@ pub fn close_under(
     finish(s, d.delay as usize, history, scratch, out)
 }
 
-// A feed of a rule of a table that has seen so many states: all of it but the session that is handed back, a table and more.
+// A feed of a rule of a table that has seen so many states: all of it but the session that is handed back.
 pub fn feed_rule(
     t: Table,
     rule: usize,
