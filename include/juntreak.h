@@ -6,7 +6,9 @@
  *   aligned for their type. Buffers of one call do not overlap.
  * - Lengths are in elements, not in bytes.
  * - Multi-byte numbers in tables and sessions are little-endian.
- * - A refused call writes nothing: no byte of any buffer changes.
+ * - A refused call writes nothing: no byte of any buffer changes. A session
+ *   call that is lent status registers writes these even if it is refused, and
+ *   nothing else then.
  * - There is no global state. Calls on different buffers may run in parallel.
  */
 #ifndef JUNTREAK_H
@@ -26,6 +28,7 @@ extern "C" {
 #define JUNTREAK_TABLE_BYTES 546   /* a table */
 #define JUNTREAK_SESSION_BYTES 558 /* a session */
 #define JUNTREAK_NARROW_BYTES 558  /* a narrow session, see juntreak_widen */
+#define JUNTREAK_STATUS_BYTES 16   /* status registers, see juntreak_open_noted */
 
 /* Sizes in elements. A buffer may be longer. */
 #define JUNTREAK_HISTORY_WORDS 4095        /* least length of history, uint32_t */
@@ -89,7 +92,9 @@ enum {
     JUNTREAK_SYNTAX = 32,   /* a byte, or the text's end, that no line can have there */
     JUNTREAK_DEEP = 33,     /* an opening bracket that is fit there, but the 33rd open one */
     /* Written books. */
-    JUNTREAK_OUTPUT = 34    /* out too short for the book */
+    JUNTREAK_OUTPUT = 34,   /* out too short for the book */
+    /* Status registers. */
+    JUNTREAK_PLACE = 38     /* place above 15 */
 };
 
 /* The values that juntreak_early answers. */
@@ -127,8 +132,8 @@ enum {
 /* of juntreak_reach: the number, and 1 if there is a range */
 #define JUNTREAK_REACH_NUMBER(answer) ((uint32_t)(answer) % 256)
 #define JUNTREAK_REACH_RANGE(answer) ((uint32_t)(answer) / 256)
-/* of juntreak_feed, of both closes and of juntreak_close_record: the number,
- * and the count of verdicts */
+/* of juntreak_feed, of both closes, of the noted ones and of
+ * juntreak_close_record: the number, and the count of verdicts */
 #define JUNTREAK_CALL_NUMBER(answer) ((uint32_t)(answer))
 #define JUNTREAK_CALL_COUNT(answer) ((uint32_t)((uint64_t)(answer) >> 32))
 /* of juntreak_turn: the number, 1 if a record was served, its place, and the
@@ -141,6 +146,9 @@ enum {
  * one that this turn was given; answer is evaluated twice */
 #define JUNTREAK_TURN_NEXT(answer, place) \
     (JUNTREAK_TURN_SERVED(answer) ? (size_t)JUNTREAK_TURN_PLACE(answer) : (size_t)(place))
+/* of juntreak_register_read: the number, and the byte */
+#define JUNTREAK_REGISTER_READ_NUMBER(answer) ((uint32_t)(answer) % 256)
+#define JUNTREAK_REGISTER_READ_VALUE(answer) ((uint32_t)(answer) / 256)
 
 /* Verdict i of out, 1 or 0. */
 #define JUNTREAK_VERDICT(out, i) ((unsigned)((out)[(i) / 64] >> ((i) % 64) & 1))
@@ -154,6 +162,19 @@ enum {
 /* Places in a session's bytes, behind its table. */
 #define JUNTREAK_RULE_NUMBER_AT 546 /* the rule number (4) */
 #define JUNTREAK_SEEN_AT 550        /* seen (8) */
+
+/* Places in the status registers. */
+#define JUNTREAK_STATUS_AT 0
+#define JUNTREAK_ENABLE_AT 1
+#define JUNTREAK_INTERRUPT_AT 2
+#define JUNTREAK_REFUSAL_AT 3  /* number of the last refused session call */
+#define JUNTREAK_FIRST_NO_AT 4 /* tick of the first no (8) */
+
+/* The bits of status and of enable. */
+#define JUNTREAK_STATUS_RUNNING 1 /* bit 0: a session is open */
+#define JUNTREAK_STATUS_READY 2   /* bit 1: verdicts are ready */
+#define JUNTREAK_STATUS_NO 4      /* bit 2: a no was given */
+#define JUNTREAK_STATUS_REFUSED 8 /* bit 3: a session call was refused */
 
 /* The name of rule i of a table. */
 #define JUNTREAK_RULE_NAME(table, i) \
@@ -182,6 +203,18 @@ enum {
  * same 558 bytes, with seen at most 4294967295.
  *
  * Verdicts in out: verdict i is bit i % 64 of word i / 64.
+ *
+ * Status registers are 16 bytes in which session calls leave what they came to.
+ * All are zero at the start. They are not the registers of nodes, which stand in
+ * the scratch.
+ *   0        status: bit 0 running, 1 verdicts ready, 2 a no was given, 3 a
+ *            call was refused
+ *   1        enable: the same bits, as the program wrote them
+ *   2        interrupt: 1 if status and enable share a set bit, otherwise 0
+ *   3        number of the last refused session call; 0 if there was none
+ *   4..11    tick of the first no since bit 2 of status was last clear; 0 while
+ *            it is clear
+ *   12..15   zero
  *
  * A list is up to 8 records over one table, each of which watches a rule;
  * several may watch one. They are no records of a book. A record has a rule
@@ -385,6 +418,82 @@ uint64_t juntreak_close_old(uint8_t session[JUNTREAK_SESSION_BYTES],
                             const uint32_t *history, size_t h,
                             uint64_t *scratch, size_t x,
                             uint64_t *out, size_t o);
+
+/* The noted session calls: each is the plain call of the same name, lent status
+ * registers before its other parameters. It answers what the plain call answers
+ * and leaves every other buffer as that does, whatever the registers hold; and it
+ * notes in the registers what it came to:
+ * - accepted, it sets bit 1 of status if it gives a verdict, and bit 2 if it
+ *   gives a no; an open also sets bit 0, and either close clears it;
+ * - refused, it sets bit 3 and leaves its number in byte 3; the registers are
+ *   then all that is written;
+ * - the first no while bit 2 is clear leaves its tick in bytes 4 to 11, where it
+ *   stays under later ones until bit 2 is cleared.
+ * Ticks count from the session's opening, or its last close: the tick of a
+ * verdict is the number of verdicts that the session gave before the call,
+ * max(0, seen - D) with seen as the call found it, plus its place in the call,
+ * from 0. In juntreak_close_old_noted D is the old delay.
+ * The same registers may be lent to calls on several sessions: they tell of all
+ * the calls together. Calls on a list do not note anything.
+ *
+ * To wait for the interrupt, a program writes the bits that it waits for to byte
+ * 1, and looks at byte 2 after each call. If that is 1, byte 0 tells why. Once it
+ * has read what it wants, it writes the bits that it has seen back to byte 0,
+ * which clears them, and byte 2 is 0 until the next of them is set. Bit 0 is not
+ * cleared by writing. Byte 3 stays when bit 3 is cleared.
+ *
+ * A noted call, and a write to byte 0 or 1, writes all 16 bytes anew. Where they
+ * hold what no call leaves, it goes by the low halves of bytes 0 and 1, by byte 3
+ * and by bytes 4 to 11. If bit 2 is clear, the last of these are made zero by an
+ * accepted call without a no and by a write to byte 0, and kept by a refused call
+ * and by a write to byte 1. */
+
+/* juntreak_open, noted. */
+uint32_t juntreak_open_noted(uint8_t registers[JUNTREAK_STATUS_BYTES],
+                             const uint8_t table[JUNTREAK_TABLE_BYTES],
+                             uint32_t rule,
+                             uint8_t session[JUNTREAK_SESSION_BYTES]);
+
+/* juntreak_widen, noted. It gives no verdict and leaves bit 0 as it is. */
+uint32_t juntreak_widen_noted(uint8_t registers[JUNTREAK_STATUS_BYTES],
+                              const uint8_t narrow[JUNTREAK_NARROW_BYTES],
+                              uint8_t session[JUNTREAK_SESSION_BYTES]);
+
+/* juntreak_feed, noted. */
+uint64_t juntreak_feed_noted(uint8_t registers[JUNTREAK_STATUS_BYTES],
+                             uint8_t session[JUNTREAK_SESSION_BYTES],
+                             const uint32_t *block, size_t k,
+                             uint32_t *history, size_t h,
+                             uint64_t *scratch, size_t x,
+                             uint64_t *out, size_t o);
+
+/* juntreak_close, noted. */
+uint64_t juntreak_close_noted(uint8_t registers[JUNTREAK_STATUS_BYTES],
+                              uint8_t session[JUNTREAK_SESSION_BYTES],
+                              const uint32_t *history, size_t h,
+                              uint64_t *scratch, size_t x,
+                              uint64_t *out, size_t o);
+
+/* juntreak_close_old, noted. */
+uint64_t juntreak_close_old_noted(uint8_t registers[JUNTREAK_STATUS_BYTES],
+                                  uint8_t session[JUNTREAK_SESSION_BYTES],
+                                  const uint32_t *history, size_t h,
+                                  uint64_t *scratch, size_t x,
+                                  uint64_t *out, size_t o);
+
+/* Writes a value to a place of the status registers. Answers the number: 0, 38.
+ * To byte 0: those of bits 1 to 3 that are set in the value are cleared, and
+ * where bit 2 is clear then, bytes 4 to 11 are zero; bit 0 stays. To byte 1:
+ * enable is the low four bits of the value. Byte 2 follows. A write to any other
+ * place changes nothing. */
+uint32_t juntreak_register_write(uint8_t registers[JUNTREAK_STATUS_BYTES],
+                                 size_t place, uint8_t value);
+
+/* Reads the byte at a place of the status registers; a program may as well look
+ * at the byte itself. Answers number + 256 * byte, numbers 0, 38; the byte is 0
+ * if refused. */
+uint32_t juntreak_register_read(const uint8_t registers[JUNTREAK_STATUS_BYTES],
+                                size_t place);
 
 /* A record of a list: 24 bytes. */
 struct juntreak_record {

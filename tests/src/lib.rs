@@ -1,6 +1,6 @@
 //! The proved library as Rust sees it (`library`), the limits and refusal numbers of its C header (`header`), models written from the
-//! documents alone (`model`, `known`, `reached`, `scheduled`, `typed`, `viable`, `written`, `program`), calls beside the model's, on
-//! sessions (`compared`) and on lists of records (`listed`), what the program rules tells (`message`), random input (`random`), where
+//! documents alone (`model`, `known`, `reached`, `scheduled`, `noted`, `typed`, `viable`, `written`, `program`), calls beside the model's,
+//! on sessions (`compared`) and on lists of records (`listed`), what the program rules tells (`message`), random input (`random`), where
 //! programs are (`place`) and how they are run (`spawn`). For the benchmarks (`bench`): the formulas (`formulas`), and what the library and
 //! the program are compared with (`naive`, `queue`, `twin`, `plain`, `plain_text`).
 pub mod bench;
@@ -13,6 +13,7 @@ pub mod listed;
 pub mod message;
 pub mod model;
 pub mod naive;
+pub mod noted;
 pub mod place;
 pub mod plain;
 pub mod plain_text;

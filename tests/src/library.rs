@@ -1,9 +1,10 @@
 //! Safe wrappers of the exported functions; include/juntreak.h declares the same.
-use crate::header::limits::{MAX_PARTS, NARROW_BYTES, SESSION_BYTES, TABLE_BYTES};
+use crate::header::limits::{MAX_PARTS, NARROW_BYTES, SESSION_BYTES, STATUS_BYTES, TABLE_BYTES};
 
 pub type TableBytes = [u8; TABLE_BYTES];
 pub type SessionBytes = [u8; SESSION_BYTES];
 pub type NarrowBytes = [u8; NARROW_BYTES];
+pub type StatusBytes = [u8; STATUS_BYTES];
 pub type Parts = [u8; MAX_PARTS];
 
 /// A record of a list.
@@ -16,7 +17,7 @@ pub struct Record {
 }
 
 mod raw {
-    use super::{NarrowBytes, Parts, Record, SessionBytes, TableBytes};
+    use super::{NarrowBytes, Parts, Record, SessionBytes, StatusBytes, TableBytes};
 
     extern "C" {
         pub fn juntreak_check_book(book: *const u8, n: usize) -> u32;
@@ -35,6 +36,13 @@ mod raw {
         pub fn juntreak_feed(session: *mut SessionBytes, block: *const u32, k: usize, history: *mut u32, h: usize, scratch: *mut u64, x: usize, out: *mut u64, o: usize) -> u64;
         pub fn juntreak_close(session: *mut SessionBytes, history: *const u32, h: usize, scratch: *mut u64, x: usize, out: *mut u64, o: usize) -> u64;
         pub fn juntreak_close_old(session: *mut SessionBytes, history: *const u32, h: usize, scratch: *mut u64, x: usize, out: *mut u64, o: usize) -> u64;
+        pub fn juntreak_open_noted(registers: *mut StatusBytes, table: *const TableBytes, rule: u32, session: *mut SessionBytes) -> u32;
+        pub fn juntreak_widen_noted(registers: *mut StatusBytes, narrow: *const NarrowBytes, session: *mut SessionBytes) -> u32;
+        pub fn juntreak_feed_noted(registers: *mut StatusBytes, session: *mut SessionBytes, block: *const u32, k: usize, history: *mut u32, h: usize, scratch: *mut u64, x: usize, out: *mut u64, o: usize) -> u64;
+        pub fn juntreak_close_noted(registers: *mut StatusBytes, session: *mut SessionBytes, history: *const u32, h: usize, scratch: *mut u64, x: usize, out: *mut u64, o: usize) -> u64;
+        pub fn juntreak_close_old_noted(registers: *mut StatusBytes, session: *mut SessionBytes, history: *const u32, h: usize, scratch: *mut u64, x: usize, out: *mut u64, o: usize) -> u64;
+        pub fn juntreak_register_write(registers: *mut StatusBytes, place: usize, value: u8) -> u32;
+        pub fn juntreak_register_read(registers: *const StatusBytes, place: usize) -> u32;
         pub fn juntreak_leave(records: *mut Record, n: usize, table: *const TableBytes, place: usize, block: *const u32, k: usize, waiting: *mut u32, w: usize) -> u32;
         pub fn juntreak_turn(records: *mut Record, n: usize, table: *const TableBytes, place: usize, history: *mut u32, h: usize, waiting: *const u32, w: usize, scratch: *mut u64, x: usize, out: *mut u64, o: usize) -> u64;
         pub fn juntreak_close_record(records: *mut Record, n: usize, table: *const TableBytes, place: usize, history: *const u32, h: usize, scratch: *mut u64, x: usize, out: *mut u64, o: usize) -> u64;
@@ -135,6 +143,47 @@ pub fn close(session: &mut SessionBytes, history: &[u32], scratch: &mut [u64], o
 pub fn close_old(session: &mut SessionBytes, history: &[u32], scratch: &mut [u64], out: &mut [u64]) -> (u32, u32) {
     let r = unsafe { raw::juntreak_close_old(session, history.as_ptr(), history.len(), scratch.as_mut_ptr(), scratch.len(), out.as_mut_ptr(), out.len()) };
     counted(r)
+}
+
+/// The number.
+pub fn open_noted(registers: &mut StatusBytes, table: &TableBytes, rule: u32, session: &mut SessionBytes) -> u32 {
+    unsafe { raw::juntreak_open_noted(registers, table, rule, session) }
+}
+
+/// The number.
+pub fn widen_noted(registers: &mut StatusBytes, narrow: &NarrowBytes, session: &mut SessionBytes) -> u32 {
+    unsafe { raw::juntreak_widen_noted(registers, narrow, session) }
+}
+
+/// The number and the count.
+pub fn feed_noted(registers: &mut StatusBytes, session: &mut SessionBytes, block: &[u32], history: &mut [u32], scratch: &mut [u64], out: &mut [u64]) -> (u32, u32) {
+    let (k, h, x, o) = (block.len(), history.len(), scratch.len(), out.len());
+    let r = unsafe { raw::juntreak_feed_noted(registers, session, block.as_ptr(), k, history.as_mut_ptr(), h, scratch.as_mut_ptr(), x, out.as_mut_ptr(), o) };
+    counted(r)
+}
+
+/// The number and the count.
+pub fn close_noted(registers: &mut StatusBytes, session: &mut SessionBytes, history: &[u32], scratch: &mut [u64], out: &mut [u64]) -> (u32, u32) {
+    let (h, x, o) = (history.len(), scratch.len(), out.len());
+    let r = unsafe { raw::juntreak_close_noted(registers, session, history.as_ptr(), h, scratch.as_mut_ptr(), x, out.as_mut_ptr(), o) };
+    counted(r)
+}
+
+/// The number and the count.
+pub fn close_old_noted(registers: &mut StatusBytes, session: &mut SessionBytes, history: &[u32], scratch: &mut [u64], out: &mut [u64]) -> (u32, u32) {
+    let (h, x, o) = (history.len(), scratch.len(), out.len());
+    let r = unsafe { raw::juntreak_close_old_noted(registers, session, history.as_ptr(), h, scratch.as_mut_ptr(), x, out.as_mut_ptr(), o) };
+    counted(r)
+}
+
+/// The number.
+pub fn register_write(registers: &mut StatusBytes, place: usize, value: u8) -> u32 {
+    unsafe { raw::juntreak_register_write(registers, place, value) }
+}
+
+/// The whole answer: number + 256 × byte.
+pub fn register_read(registers: &StatusBytes, place: usize) -> u32 {
+    unsafe { raw::juntreak_register_read(registers, place) }
 }
 
 /// The number.

@@ -16,6 +16,12 @@ pub trait Dirt: Copy + PartialEq + Debug {
     fn dirt(r: &mut Random) -> Self;
 }
 
+impl Dirt for u8 {
+    fn dirt(r: &mut Random) -> u8 {
+        r.next() as u8
+    }
+}
+
 impl Dirt for u32 {
     fn dirt(r: &mut Random) -> u32 {
         r.next() as u32

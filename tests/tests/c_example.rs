@@ -76,6 +76,12 @@ fn three_rules_are_served_in_turn() {
 }
 
 #[test]
+fn the_interrupt_tells_of_a_no_and_of_a_refusal() {
+    let fed = "feed 1: no interrupt\nfeed 2: interrupt, first no at tick 2\nfeed 3: interrupt, refused with 22\nfeed 4: no interrupt\n";
+    assert_eq!(printed("status"), format!("{fed}close: interrupt, first no at tick 10\n"));
+}
+
+#[test]
 fn the_rows_are_those_worked_by_hand() {
     assert_eq!(printed("rows"), include_str!("../../examples/rows.txt"));
 }

@@ -1,19 +1,20 @@
 //! The limits and refusal numbers: the documents' values in the C header, and the same names and values in the Rattle crates and in their specifications.
-use juntreak_tests::header::limits::{self, MAX_NODES, MAX_RULES, NARROW_BYTES, NODE_COUNT_AT, RULE_COUNT_AT, SESSION_BYTES, TABLE_BYTES};
-use juntreak_tests::header::places::{node_at, rule_at, RULE_NUMBER_AT, SEEN_AT};
+use juntreak_tests::header::limits::{self, MAX_NODES, MAX_RULES, NARROW_BYTES, NODE_COUNT_AT, RULE_COUNT_AT, SESSION_BYTES, STATUS_BYTES, TABLE_BYTES};
+use juntreak_tests::header::places::{node_at, rule_at, ENABLE_AT, FIRST_NO_AT, INTERRUPT_AT, REFUSAL_AT, RULE_NUMBER_AT, SEEN_AT, STATUS_AT};
 use juntreak_tests::header::{refusals, values, NUMBERS};
 use std::collections::{BTreeMap, BTreeSet};
 
 type Constants = BTreeMap<String, u64>;
 
 /// Every constant of the header.
-const VALUES: [(&str, u64); 59] = [
+const VALUES: [(&str, u64); 70] = [
     ("RECORD_BYTES", 12),
     ("BOOK_BYTES", 3060),
     ("WRITTEN_BYTES", 876),
     ("TABLE_BYTES", 546),
     ("SESSION_BYTES", 558),
     ("NARROW_BYTES", 558),
+    ("STATUS_BYTES", 16),
     ("HISTORY_WORDS", 4095),
     ("SCRATCH_WORDS", 5280),
     ("EARLY_SCRATCH_WORDS", 10560),
@@ -40,6 +41,15 @@ const VALUES: [(&str, u64); 59] = [
     ("RULE_COUNT_AT", 1),
     ("RULE_NUMBER_AT", 546),
     ("SEEN_AT", 550),
+    ("STATUS_AT", 0),
+    ("ENABLE_AT", 1),
+    ("INTERRUPT_AT", 2),
+    ("REFUSAL_AT", 3),
+    ("FIRST_NO_AT", 4),
+    ("STATUS_RUNNING", 1),
+    ("STATUS_READY", 2),
+    ("STATUS_NO", 4),
+    ("STATUS_REFUSED", 8),
     ("OK", 0),
     ("LENGTH", 1),
     ("HEAD", 2),
@@ -64,13 +74,29 @@ const VALUES: [(&str, u64); 59] = [
     ("SYNTAX", 32),
     ("DEEP", 33),
     ("OUTPUT", 34),
+    ("PLACE", 38),
     ("NO", 0),
     ("YES", 1),
     ("OPEN", 2),
 ];
 
 /// What the header's limits and refusals have beside those of the Rattle crates; its values are in C only.
-const IN_C_ONLY: [&str; 5] = ["NODE_COUNT_AT", "RULE_COUNT_AT", "RULE_NUMBER_AT", "SEEN_AT", "OK"];
+const IN_C_ONLY: [&str; 14] = [
+    "NODE_COUNT_AT",
+    "RULE_COUNT_AT",
+    "RULE_NUMBER_AT",
+    "SEEN_AT",
+    "STATUS_AT",
+    "ENABLE_AT",
+    "INTERRUPT_AT",
+    "REFUSAL_AT",
+    "FIRST_NO_AT",
+    "STATUS_RUNNING",
+    "STATUS_READY",
+    "STATUS_NO",
+    "STATUS_REFUSED",
+    "OK",
+];
 
 fn constants(list: &[(&str, u64)]) -> Constants {
     list.iter().map(|(name, value)| (name.to_string(), *value)).collect()
@@ -175,10 +201,12 @@ fn the_specifications_have_the_same() {
     same("Numbers", specification(include_str!("../../crates/refusals/specs/Numbers.antt")), shared(refusals::ALL));
 }
 
-/// The places follow each other and fill the table and the session, a narrow one too; no refusal number is beyond the counts by number.
+/// The places follow each other and fill the table and the session, a narrow one too, and the status registers but for their last four bytes; no refusal
+/// number is beyond the counts by number.
 #[test]
 fn places() {
     assert_eq!([NODE_COUNT_AT, RULE_COUNT_AT, node_at(0), rule_at(0), RULE_NUMBER_AT, SEEN_AT], [0, 1, 2, 514, 546, 550]);
     assert_eq!([node_at(MAX_NODES), rule_at(MAX_RULES), SEEN_AT + 8, SEEN_AT + 8], [rule_at(0), TABLE_BYTES, SESSION_BYTES, NARROW_BYTES]);
+    assert_eq!([STATUS_AT, ENABLE_AT, INTERRUPT_AT, REFUSAL_AT, FIRST_NO_AT, FIRST_NO_AT + 8 + 4], [0, 1, 2, 3, 4, STATUS_BYTES]);
     assert!(refusals::ALL.iter().all(|(_, number)| *number < NUMBERS as u64));
 }

@@ -108,7 +108,7 @@ module _ (width : Width) (b : List ℕ) (l : length b ≡ 558) where
     close-small = rw (close-number (waitOf old) s h x o) (first-within 25 (closeRows (unfitBy (waitOf old) s) (length h) (length x) (length o)) refl)
 
 -- the session that bytes hold, with its width
-abbrev anyIn : Width → List ℕ → calls.AnySession
+abbrev pub anyIn : Width → List ℕ → calls.AnySession
 anyIn width b = record { base = heldIn width b; width = width }
 
 narrow-unseen : (b : List ℕ) → sessionFrom b .seen ≡ 0 → wideOf (narrowFrom b) ≡ sessionFrom b
@@ -175,7 +175,7 @@ module _ (old : Bool) where
         }
 
   -- ---- every call
-  meets : (c : Call) → ContractBy wait c → MeetsBy wait (asCall c)
+  pub meets : (c : Call) → ContractBy wait c → MeetsBy wait (asCall c)
   meets (feed width block l) k = record {
     takes = tt;
     is = effect-is width (l .session) (l .size) (feed-small width (l .session) (l .size) old (l .history) (l .scratch) (l .out) block) (feed-back width (l .session) (l .size) old (l .history) (l .scratch) (l .out) block) k;
@@ -209,7 +209,7 @@ module _ (old : Bool) where
 
   -- ---- lists of calls
   -- the session that an accepted call hands back is that of the bytes afterwards
-  back-is : (c : Call) → ContractBy wait c → answeredNumber c ≡ 0 → calls.sessionAfter (asCall c) ≡ anyIn (calls.widthAfter (actOf c) (widthOf c)) (lent c .session′)
+  pub back-is : (c : Call) → ContractBy wait c → answeredNumber c ≡ 0 → calls.sessionAfter (asCall c) ≡ anyIn (calls.widthAfter (actOf c) (widthOf c)) (lent c .session′)
   back-is (feed width block l) k z = refl
   back-is (close width l) k z = refl
   back-is (widen before size l) k z =
@@ -240,7 +240,7 @@ module _ (old : Bool) where
     abbrev u : Table
     u = m .simplified .answer .table
 
-    accepts : readNumber (m .source) ≡ 0
+    pub accepts : readNumber (m .source) ≡ 0
     accepts = number-zero (m .source) (m .read)
 
     sound : Sound t
@@ -252,7 +252,7 @@ module _ (old : Bool) where
     held-table : tableFrom (m .table) ≡ t
     held-table = ap tableFrom table-is ∙ table-back t (m .old-table) (omega (arith, m .table-size)) sound
 
-    promised : PromisedBy wait t (m .simplified .answer)
+    pub promised : PromisedBy wait t (m .simplified .answer)
     promised = subst (λ (x : Table). PromisedBy wait x (m .simplified .answer)) held-table (m .simplified .promised)
 
     better : SimplerBy wait t u
@@ -264,13 +264,13 @@ module _ (old : Bool) where
     table-long : length (m .table) ≡ 546
     table-long = ap length table-is ∙ length-written t (m .old-table) (omega (arith, m .table-size)) ∙ m .table-size
 
-    held-simple : tableFrom (m .simple) ≡ u
+    pub held-simple : tableFrom (m .simple) ≡ u
     held-simple = ap tableFrom simple-is ∙ table-back u (m .table) (omega (arith, table-long)) (sound-now old u (wait-sound-iff old u .0 (better .sound)))
 
-    opens : openingBy wait u (m .rule) .number ≡ 0
+    pub opens : openingBy wait u (m .rule) .number ≡ 0
     opens = sym (ap (λ (x : Table). openingBy wait x (m .rule) .number) held-simple) ∙ sym (m .opened)
 
-    abbrev start-is : mission.StartBy wait
+    abbrev pub start-is : mission.StartBy wait
     start-is = record {
       source = m .source;
       read = accepts;
@@ -296,7 +296,7 @@ module _ (old : Bool) where
         ∙ sym (opened-is old u (m .rule) opens)
 
     -- a narrow one was the same bytes
-    held-either : (width : Width) → heldIn width (m .session) ≡ mission.sessionOf start-is
+    pub held-either : (width : Width) → heldIn width (m .session) ≡ mission.sessionOf start-is
     held-either narrow =
         let e : sessionFrom (m .session) .seen ≡ 0 = ap (λ (s : Session). s .seen) (held-session ∙ opened-is old u (m .rule) opens) in
         narrow-unseen (m .session) e ∙ held-session

@@ -8,3 +8,5 @@ pub mod Reach
 pub mod Written
 -- lists of calls of the scheduler over the bytes of a table
 pub mod Scheduled
+-- lists of calls with the status registers beside them
+pub mod Noted

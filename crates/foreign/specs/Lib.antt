@@ -8,3 +8,5 @@ pub mod Reach
 pub mod Written
 -- lists of calls of the scheduler over the bytes of a table
 pub mod Scheduled
+-- the status registers
+pub mod Noted

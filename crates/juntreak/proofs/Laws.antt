@@ -25,6 +25,8 @@ use Rattle.reach.specs.Reach.{Reached, reachedBy, reached}
 use Rattle.session.specs.declared.Session.{Session}
 use Rattle.session.specs.declared.Answer.{Answer}
 use Rattle.session.specs.Session.{Effect, unfitBy, unfit, feedNumberBy, feedingBy, feeding, closeNumberBy, closingBy}
+use Rattle.registers.specs.declared.Outcome.{Outcome}
+use Rattle.registers.specs.Registers.{afterCall}
 use Rattle.session.proofs.Answers.{feed-fits, close-fits, unfit-short}
 use Rattle.juntreak.specs.Answers.{leaves, earlyAnswer, reachAnswer, rangeAfter, sessionAnswer, Simplifies, counted, Called}
 
@@ -58,21 +60,25 @@ pub reached-by : {t u : Table} (rule n s : ℕ) (r : Range) {a : ℕ} {w′ : Li
 reached-by rule n s r w e p q a =
     let k = p ∙ ap (λ (z : Table). reached z rule n s) e in (a ∙ ap reachAnswer k, q ∙ ap (λ (z : Reached). rangeAfter z w) k)
 
--- ---- calls
-pub called-is : {e : Effect} {r : Answer} {b b′ h x o : List ℕ} → _≡_ {A = Effect} (record { answer = r; history = h; scratch = x; out = o }) e
-    → b′ ≡ counted renewed r b → Called renewed e b (sessionAnswer r) b′ h x o
-called-is {b = b} p q = record {
-  told = ap (λ (z : Effect). sessionAnswer (z .answer)) p;
-  session = q ∙ ap (λ (z : Effect). counted renewed (z .answer) b) p;
-  history-is = ap (λ (z : Effect). z .history) p;
-  scratch-is = ap (λ (z : Effect). z .scratch) p;
-  out-is = ap (λ (z : Effect). z .out) p;
-}
+-- ---- calls: the session is what its bytes hold
+pub called-by : (run : Session → Effect) {s z : Session} {r : Answer} {n : ℕ} {b b′ h x o : List ℕ}
+    → _≡_ {A = Effect} (record { answer = r; history = h; scratch = x; out = o }) (run s)
+    → s ≡ z → (n ≡ sessionAnswer r) × (b′ ≡ counted renewed r b) → Called renewed (run z) b n b′ h x o
+called-by run {b = b} p e q =
+    let k = p ∙ ap run e in
+    record {
+      told = q .0 ∙ ap (λ (y : Effect). sessionAnswer (y .answer)) k;
+      session = q .1 ∙ ap (λ (y : Effect). counted renewed (y .answer) b) k;
+      history-is = ap (λ (y : Effect). y .history) k;
+      scratch-is = ap (λ (y : Effect). y .scratch) k;
+      out-is = ap (λ (y : Effect). y .out) k;
+    }
 
--- the session is what its bytes hold
-pub called-by : (run : Session → Effect) {s z : Session} {r : Answer} {b b′ h x o : List ℕ} → _≡_ {A = Effect} (record { answer = r; history = h; scratch = x; out = o }) (run s)
-    → s ≡ z → b′ ≡ counted renewed r b → Called renewed (run z) b (sessionAnswer r) b′ h x o
-called-by run p e q = called-is (p ∙ ap run e) q
+-- the same with the registers g beside it
+pub noted-by : (run : Session → Effect) (outcome : Session → Outcome) (g : List ℕ) {s z : Session} {r : Answer} {n : ℕ} {g′ b b′ h x o : List ℕ}
+    → _≡_ {A = Effect} (record { answer = r; history = h; scratch = x; out = o }) (run s) × (g′ ≡ afterCall (outcome s) g)
+    → s ≡ z → (n ≡ sessionAnswer r) × (b′ ≡ counted renewed r b) → Called renewed (run z) b n b′ h x o × (g′ ≡ afterCall (outcome z) g)
+noted-by run outcome g p e q = (called-by run (p .0) e q, p .1 ∙ ap (λ (y : Session). afterCall (outcome y) g) e)
 
 -- counts are small
 pub count-within : {e : Effect} {r : Answer} {h x o : List ℕ} (n : ℕ) → _≡_ {A = Effect} (record { answer = r; history = h; scratch = x; out = o }) e → e .answer .count ≤ n

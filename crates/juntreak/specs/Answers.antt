@@ -17,6 +17,7 @@ use Rattle.mltl.specs.Mltl.{Formula, delay}
 use Rattle.mltl.specs.Known.{Value, no, undecided, yes}
 use Rattle.early.specs.Early.{Told, refused, value}
 use Rattle.reach.specs.Reach.{Reached, refused as not-reached, empty, ticks}
+use Rattle.registers.specs.declared.Reading.{Reading}
 use Rattle.session.specs.declared.Answer.{Answer}
 use Rattle.session.specs.declared.Opening.{Opening}
 use Rattle.session.specs.Session.{Effect}
@@ -52,6 +53,10 @@ movesAnswer d = d .number + 256 * d .exponent + 65536 * d .count + 4294967296 * 
 -- the number of a refusal and, above it, the count of verdicts
 abbrev pub sessionAnswer : Answer → ℕ
 sessionAnswer r = r .number + 4294967296 * r .count
+
+-- the number of a refusal and, above it, the byte at a place
+abbrev pub registerAnswer : Reading → ℕ
+registerAnswer r = r .number + 256 * r .value
 
 -- 0 for no, 1 for yes, 2 for open
 abbrev pub valueNumber : Value → ℕ

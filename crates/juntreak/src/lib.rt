@@ -1,9 +1,12 @@
 // The interface for programs in other languages: include/juntreak.h declares each function. A table is 546 bytes, a session 558. A refused
 // call writes nothing.
 ghost use mathlib.Core.Path.{_≡_};
+ghost use Prim.Native.Nat.{_≤_};
 ghost use lib.ListN.{length};
+ghost use Rattle.limits.specs.Limits.{maxDelay};
 ghost use Rattle.interval.specs.Parts.{splitting};
 ghost use Rattle.interval.specs.Doubling.{doubling};
+ghost use Rattle.mltl.specs.Mltl.{delay, oldDelay};
 ghost use Rattle.table.specs.Nodes.{waitOf};
 ghost use Rattle.table.specs.Sound.{ruleDelay};
 ghost use Rattle.book.specs.Reading.{reading, codeOf};
@@ -16,15 +19,18 @@ ghost use Rattle.session.specs.Session.{opening, feeding, closingBy, closing, c
 ghost use Rattle.scheduler.specs.Scheduler.{leaveEffect, turnEffect, closeEffect};
 ghost use Rattle.scheduler.specs.Work.{Told, leaveWork, turnWork, closeWork};
 ghost use Rattle.narrow.specs.Narrow.{wideOf, widening};
+ghost use Rattle.registers.specs.Registers.{afterCall, afterWrite, placeNumber, readingOf};
+ghost use Rattle.noted.specs.Noted.{openOutcome, widenOutcome, feedOutcome, closeOutcome};
 ghost use Rattle.flat.specs.Flat.{tableFrom, written};
 ghost use Rattle.flat.specs.Sessions.{sessionFrom, sessionWritten, renewed, narrowFrom};
-ghost use Rattle.juntreak.specs.Answers.{leaves, textAnswer, writeAnswer, delayAnswer, splitAnswer, movesAnswer, earlyAnswer, reachAnswer, rangeAfter, Simplifies, stored, counted, Called};
+ghost use Rattle.juntreak.specs.Answers.{leaves, textAnswer, writeAnswer, delayAnswer, splitAnswer, movesAnswer, sessionAnswer, registerAnswer, earlyAnswer, reachAnswer, rangeAfter, Simplifies, stored, counted, Called};
 ghost use Rattle.juntreak.specs.Scheduler.{turnCode, leaveCall, leaveIn, turnCall, turnIn, closeCall, closeIn};
 use book::Reading;
 use early::Decision;
 use limits::MAX_PARTS;
 use limits::NARROW_BYTES;
 use limits::SESSION_BYTES;
+use limits::STATUS_BYTES;
 use limits::TABLE_BYTES;
 use reach::Range;
 use records::Change;
@@ -69,6 +75,15 @@ fn put_count(r: Answer, b: &mut [u8; SESSION_BYTES])
     if r.number == 0 {
         flat::write_seen(r.session.seen, b);
     }
+}
+
+// The same, with the answer as one number.
+fn put_answer(r: Answer, b: &mut [u8; SESSION_BYTES]) -> u64
+    requires { ⌜ r .count ≤ maxDelay ⌝ }
+    ensures { λ n. ⌜ (n ≡ sessionAnswer r) × (now (b .exit) ≡ counted renewed r (now (b .entry))) ⌝ }
+{
+    put_count(r, b);
+    r.number as u64 + 4294967296 * (r.count as u64)
 }
 
 // ---- books, typed rules and tables
@@ -299,8 +314,7 @@ pub extern "C" fn juntreak_feed(
 {
     let s = flat::read_session(session);
     let r = s.feed(block, history, scratch, out);
-    put_count(r, session);
-    r.number as u64 + 4294967296 * (r.count as u64)
+    put_answer(r, session)
 }
 
 // The verdicts of the states that history still holds; where `old`, by the delay before A5.
@@ -315,8 +329,7 @@ fn close_by(
 {
     let s = flat::read_session(session);
     let r = session::close_under(old, s, history, scratch, out);
-    put_count(r, session);
-    r.number as u64 + 4294967296 * (r.count as u64)
+    put_answer(r, session)
 }
 
 #[no_mangle]
@@ -342,6 +355,115 @@ pub extern "C" fn juntreak_close_old(
     ensures { λ r. ⌜ Called renewed (closingOld (sessionFrom (now (session .entry))) (now (history .entry)) (now (scratch .entry)) (now (out .entry))) (now (session .entry)) r (now (session .exit)) (now (history .entry)) (now (scratch .exit)) (now (out .exit)) ⌝ }
 {
     close_by(true, session, history, scratch, out)
+}
+
+// ---- sessions with the status registers beside them
+
+#[no_mangle]
+pub extern "C" fn juntreak_open_noted(
+    registers: &mut [u8; STATUS_BYTES],
+    table: &[u8; TABLE_BYTES],
+    rule: u32,
+    session: &mut [u8; SESSION_BYTES],
+) -> u32
+    ensures { λ r. ⌜ (r ≡ opening (tableFrom (now (table .entry))) rule .number) × (now (session .exit) ≡ stored (opening (tableFrom (now (table .entry))) rule) (now (session .entry))) × (now (registers .exit) ≡ afterCall (openOutcome (opening (tableFrom (now (table .entry))) rule)) (now (registers .entry))) ⌝ }
+{
+    let t = flat::read_table(table);
+    let o = noted::open(registers, t, rule as usize);
+    put_session(o.number, o.session, session);
+    o.number as u32
+}
+
+#[no_mangle]
+pub extern "C" fn juntreak_widen_noted(
+    registers: &mut [u8; STATUS_BYTES],
+    narrow: &[u8; NARROW_BYTES],
+    session: &mut [u8; SESSION_BYTES],
+) -> u32
+    ensures { λ r. ⌜ (r ≡ widening (wideOf (narrowFrom (now (narrow .entry)))) .number) × (now (session .exit) ≡ stored (widening (wideOf (narrowFrom (now (narrow .entry))))) (now (session .entry))) × (now (registers .exit) ≡ afterCall (widenOutcome (widening (wideOf (narrowFrom (now (narrow .entry)))))) (now (registers .entry))) ⌝ }
+{
+    let n = flat::read_narrow(narrow);
+    let w = noted::widen(registers, n);
+    put_session(w.number, w.session, session);
+    w.number as u32
+}
+
+#[no_mangle]
+pub extern "C" fn juntreak_feed_noted(
+    registers: &mut [u8; STATUS_BYTES],
+    session: &mut [u8; SESSION_BYTES],
+    block: &[u32],
+    history: &mut [u32],
+    scratch: &mut [u64],
+    out: &mut [u64],
+) -> u64
+    ensures { λ r. ⌜ Called renewed (feeding (sessionFrom (now (session .entry))) (now (block .entry)) (now (history .entry)) (now (scratch .entry)) (now (out .entry))) (now (session .entry)) r (now (session .exit)) (now (history .exit)) (now (scratch .exit)) (now (out .exit)) × (now (registers .exit) ≡ afterCall (feedOutcome delay (sessionFrom (now (session .entry))) (feeding (sessionFrom (now (session .entry))) (now (block .entry)) (now (history .entry)) (now (scratch .entry)) (now (out .entry)))) (now (registers .entry))) ⌝ }
+{
+    let s = flat::read_session(session);
+    let r = noted::feed(registers, s, block, history, scratch, out);
+    put_answer(r, session)
+}
+
+fn close_noted_by(
+    registers: &mut [u8; STATUS_BYTES],
+    old: bool,
+    session: &mut [u8; SESSION_BYTES],
+    history: &[u32],
+    scratch: &mut [u64],
+    out: &mut [u64],
+) -> u64
+    ensures { λ r. ⌜ Called renewed (closingBy (waitOf old) (sessionFrom (now (session .entry))) (now (history .entry)) (now (scratch .entry)) (now (out .entry))) (now (session .entry)) r (now (session .exit)) (now (history .entry)) (now (scratch .exit)) (now (out .exit)) × (now (registers .exit) ≡ afterCall (closeOutcome (waitOf old) (sessionFrom (now (session .entry))) (closingBy (waitOf old) (sessionFrom (now (session .entry))) (now (history .entry)) (now (scratch .entry)) (now (out .entry)))) (now (registers .entry))) ⌝ }
+{
+    let s = flat::read_session(session);
+    let r = noted::close_under(registers, old, s, history, scratch, out);
+    put_answer(r, session)
+}
+
+#[no_mangle]
+pub extern "C" fn juntreak_close_noted(
+    registers: &mut [u8; STATUS_BYTES],
+    session: &mut [u8; SESSION_BYTES],
+    history: &[u32],
+    scratch: &mut [u64],
+    out: &mut [u64],
+) -> u64
+    ensures { λ r. ⌜ Called renewed (closing (sessionFrom (now (session .entry))) (now (history .entry)) (now (scratch .entry)) (now (out .entry))) (now (session .entry)) r (now (session .exit)) (now (history .entry)) (now (scratch .exit)) (now (out .exit)) × (now (registers .exit) ≡ afterCall (closeOutcome delay (sessionFrom (now (session .entry))) (closing (sessionFrom (now (session .entry))) (now (history .entry)) (now (scratch .entry)) (now (out .entry)))) (now (registers .entry))) ⌝ }
+{
+    close_noted_by(registers, false, session, history, scratch, out)
+}
+
+#[no_mangle]
+pub extern "C" fn juntreak_close_old_noted(
+    registers: &mut [u8; STATUS_BYTES],
+    session: &mut [u8; SESSION_BYTES],
+    history: &[u32],
+    scratch: &mut [u64],
+    out: &mut [u64],
+) -> u64
+    ensures { λ r. ⌜ Called renewed (closingOld (sessionFrom (now (session .entry))) (now (history .entry)) (now (scratch .entry)) (now (out .entry))) (now (session .entry)) r (now (session .exit)) (now (history .entry)) (now (scratch .exit)) (now (out .exit)) × (now (registers .exit) ≡ afterCall (closeOutcome oldDelay (sessionFrom (now (session .entry))) (closingOld (sessionFrom (now (session .entry))) (now (history .entry)) (now (scratch .entry)) (now (out .entry)))) (now (registers .entry))) ⌝ }
+{
+    close_noted_by(registers, true, session, history, scratch, out)
+}
+
+// Writes a byte to a place of the registers.
+#[no_mangle]
+pub extern "C" fn juntreak_register_write(
+    registers: &mut [u8; STATUS_BYTES],
+    place: usize,
+    value: u8,
+) -> u32
+    ensures { λ r. ⌜ (r ≡ placeNumber place) × (now (registers .exit) ≡ afterWrite place value (now (registers .entry))) ⌝ }
+{
+    registers::write(registers, place, value) as u32
+}
+
+// The byte at a place of the registers: 0 and 256 times the byte, or the number of the refusal.
+#[no_mangle]
+pub extern "C" fn juntreak_register_read(registers: &[u8; STATUS_BYTES], place: usize) -> u32
+    ensures { λ r. ⌜ r ≡ registerAnswer (readingOf place (now (registers .entry))) ⌝ }
+{
+    let r = registers::read(registers, place);
+    r.number as u32 + 256 * (r.value as u32)
 }
 
 // ---- the scheduler: each function is one pass over the list, the work on what it has found, and the change of the list

@@ -90,6 +90,10 @@ maxList = 8
 abbrev pub waitingWords : ℕ
 waitingWords = maxBlock
 
+-- ---- the status registers
+abbrev pub statusBytes : ℕ
+statusBytes = 16
+
 -- ---- tables and sessions as bytes
 abbrev pub tableBytes : ℕ
 tableBytes = 546

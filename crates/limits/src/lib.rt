@@ -70,6 +70,10 @@ pub const MAX_LIST: usize = 8;
 
 pub const WAITING_WORDS: usize = MAX_BLOCK;
 
+// ---- the status registers
+
+pub const STATUS_BYTES: usize = 16;
+
 // ---- tables and sessions as bytes
 
 pub const TABLE_BYTES: usize = 546;

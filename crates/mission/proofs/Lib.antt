@@ -22,3 +22,5 @@ pub mod Reach
 pub mod Typed
 -- each record of the scheduler is a session of its own
 pub mod Scheduled
+-- lists of calls with the status registers beside them
+pub mod Noted

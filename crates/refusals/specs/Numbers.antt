@@ -97,3 +97,8 @@ LIST = 36
 -- a block is left with, or a close asked of, a record that still waits
 abbrev pub WAITING : ℕ
 WAITING = 37
+
+-- ---- the status registers
+-- a place above 15
+abbrev pub PLACE : ℕ
+PLACE = 38

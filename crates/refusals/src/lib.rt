@@ -55,3 +55,7 @@ pub const BEYOND: u8 = 35;
 pub const LIST: u8 = 36;
 
 pub const WAITING: u8 = 37;
+
+// ---- the status registers
+
+pub const PLACE: u8 = 38;

@@ -1,0 +1,2 @@
+-- what the private functions require
+pub mod Steps
