@@ -210,8 +210,7 @@ impl Counts {
 fn any_place(r: &mut Random) -> usize {
     match r.below(8) {
         0..=2 => STATUS_AT,
-        3 => ENABLE_AT,
-        4 => ENABLE_AT,
+        3 | 4 => ENABLE_AT,
         5 => r.below(18) as usize,
         6 => r.pick(&[2, 3, 4, 15, 16, 17, 255, 256, 257]),
         _ => r.pick(&[1 << 16, (1 << 32) + 1, 1 << 63, usize::MAX, r.0 as usize]),
