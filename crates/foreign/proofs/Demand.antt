@@ -29,7 +29,7 @@ use Rattle.flat.specs.Flat.{tableFrom, bytesHolding, written}
 use Rattle.flat.specs.Sessions.{sessionFrom, sessionWritten, narrowFrom}
 use Rattle.flat.proofs.Laws.{length-written, written-all, table-back}
 use Rattle.flat.proofs.Sessions.{table-first, session-back, renewed-back, narrow-wide, narrow-renewed, narrow-seen}
-use Rattle.juntreak.specs.Answers.{leaves, stored, counted, Called}
+use Rattle.shell.specs.Answers.{leaves, stored, counted, Called}
 use Rattle.acts.specs.World.{Width, narrow, wide, limit}
 use Rattle.acts.specs.Claim.{Claim}
 use Rattle.mission.specs.Calls.{MeetsBy, statesFed, verdictsGiven}

@@ -18,7 +18,7 @@ use Rattle.table.specs.declared.Table.{Table}
 use Rattle.flat.specs.Flat.{tableFrom}
 use Rattle.early.specs.Early.{refused, value, earlyRows, earlyNumber, earlyNumberFor, earlyTold}
 use Rattle.early.proofs.Promise.{relied}
-use Rattle.juntreak.specs.Answers.{valueNumber, earlyAnswer}
+use Rattle.shell.specs.Answers.{valueNumber, earlyAnswer}
 use Rattle.foreign.specs.Early.{ForeignEarly}
 
 -- a value is known by its number

@@ -14,7 +14,7 @@ use Rattle.table.specs.declared.Table.{Table}
 use Rattle.flat.specs.Flat.{tableFrom}
 use Rattle.reach.specs.Reach.{Reached, refused, empty, ticks, Among, reachRows, reachNumber, reached}
 use Rattle.reach.proofs.Promise.{relied}
-use Rattle.juntreak.specs.Answers.{reachAnswer, rangeAfter}
+use Rattle.shell.specs.Answers.{reachAnswer, rangeAfter}
 use Rattle.foreign.specs.Reach.{ForeignReach}
 
 small : (t : Table) (rule n s : ℕ) → reachNumber t rule n s ≤ 255

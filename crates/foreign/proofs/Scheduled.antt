@@ -16,7 +16,7 @@ use Rattle.scheduler.specs.Scheduler.{leaveEffect, turnEffect, closeEffect}
 use Rattle.scheduler.specs.Calls.{State, Act, leave, turn, close, Effect, effectOf, rowsOf}
 use Rattle.scheduler.specs.Calls as scheduler
 use Rattle.scheduler.proofs.Accepted.{number-is, refused-serves, Serves, Idle, turn-accepted}
-use Rattle.juntreak.specs.Scheduler.{turnAnswer, TurnCall, CloseCall}
+use Rattle.shell.specs.Scheduler.{turnAnswer, TurnCall, CloseCall}
 use Rattle.foreign.specs.Scheduled.{Call, LeaveContract, TurnContract, CloseContract, ContractOf, Contract, toldNumber, toldServed, toldPlace, toldCount, asCall, Calls, begin, accepted, refused, ForeignScheduled}
 
 -- ---- the scheduler's effects

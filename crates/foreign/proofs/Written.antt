@@ -25,7 +25,7 @@ use Rattle.flat.proofs.Laws.{same-table, written-all, bytes-back}
 use Rattle.flat.proofs.Sessions.{take-four, take-eight, table-first}
 use Rattle.session.specs.declared.Answer.{Answer}
 use Rattle.session.specs.Session.{Effect}
-use Rattle.juntreak.specs.Answers.{leaves, counted, Called}
+use Rattle.shell.specs.Answers.{leaves, counted, Called}
 use Rattle.acts.specs.World.{Width, narrow, wide}
 use Rattle.foreign.specs.Demand.{heldIn, renewedIn, Call, feed, close, widen, lent, Contract, answeredNumber, widthOf, Calls, begin, accepted, refused, Start}
 use Rattle.foreign.proofs.Demand.{widened-bytes, session-first, table-held}

@@ -21,7 +21,7 @@ use Rattle.session.specs.Session.{noSession, openingBy, feedingBy, closingBy, c
 use Rattle.narrow.specs.Narrow.{wideOf, wideningBy}
 use Rattle.flat.specs.Flat.{tableFrom, written}
 use Rattle.flat.specs.Sessions.{putFour, seenPlace, sessionFrom, renewed, narrowFrom}
-use Rattle.juntreak.specs.Answers.{leaves, textAnswer, SimplifiesBy, stored, Called}
+use Rattle.shell.specs.Answers.{leaves, textAnswer, SimplifiesBy, stored, Called}
 use Rattle.acts.specs.World.{Width, narrow, wide, limit}
 use Rattle.acts.specs.Claim.{Claim}
 use Rattle.mission.specs.Calls.{statesFed, verdictsGiven, MeetsBy}

@@ -9,7 +9,7 @@ use Rattle.mltl.specs.Known.{decided}
 use Rattle.table.specs.Nodes.{watchedFormula}
 use Rattle.flat.specs.Flat.{tableFrom}
 use Rattle.early.specs.Early.{earlyTold}
-use Rattle.juntreak.specs.Answers.{valueNumber, earlyAnswer}
+use Rattle.shell.specs.Answers.{valueNumber, earlyAnswer}
 
 -- what a call answers on the bytes of a table
 abbrev pub earlyFor : List ℕ → ℕ → List ℕ → ℕ → List ℕ → ℕ

@@ -8,7 +8,7 @@ use Rattle.mltl.specs.Mltl.{holds, DifferAt}
 use Rattle.table.specs.Nodes.{watchedFormula}
 use Rattle.flat.specs.Flat.{tableFrom}
 use Rattle.reach.specs.Reach.{reached}
-use Rattle.juntreak.specs.Answers.{reachAnswer, rangeAfter}
+use Rattle.shell.specs.Answers.{reachAnswer, rangeAfter}
 
 -- what a call answers on the bytes of a table, and the words of `range` after it
 abbrev pub reachFor : List ℕ → ℕ → ℕ → ℕ → ℕ

@@ -11,7 +11,7 @@ use Rattle.scheduler.specs.Calls.{State, Act, leave, turn, close}
 use Rattle.scheduler.specs.Calls as scheduler
 use Rattle.table.specs.declared.Table.{Table}
 use Rattle.flat.specs.Flat.{tableFrom}
-use Rattle.juntreak.specs.Scheduler.{LeaveCall, leaveCall, TurnCall, turnCall, CloseCall, closeCall}
+use Rattle.shell.specs.Scheduler.{LeaveCall, leaveCall, TurnCall, turnCall, CloseCall, closeCall}
 
 -- what a call was given and its answer, and what it left; of scratch and out, leaving a block is lent none
 pub record Call : Type 0 where

@@ -11,7 +11,7 @@ use Rattle.book.specs.Reading.{reading, codeOf}
 use Rattle.book.specs.Writing.{writing, writtenInto}
 use Rattle.flat.specs.Flat.{tableFrom, written}
 use Rattle.flat.specs.Sessions.{sessionFrom}
-use Rattle.juntreak.specs.Answers.{leaves, writeAnswer}
+use Rattle.shell.specs.Answers.{leaves, writeAnswer}
 use Rattle.acts.specs.World.{Width}
 use Rattle.foreign.specs.Demand.{Call, Calls, Start}
 

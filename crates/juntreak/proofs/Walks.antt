@@ -13,12 +13,12 @@ use Rattle.records.proofs.Record as T
 use Rattle.records.proofs.Summary as S
 use Rattle.records.proofs.Change as D
 use Rattle.records.proofs.Change.Laws as D′
-use Rattle.juntreak.specs.declared.Numbered.{Numbered}
-use Rattle.juntreak.specs.declared.Coded.{Coded}
-use Rattle.juntreak.proofs.Numbered as N
-use Rattle.juntreak.proofs.Numbered.Laws as N′
-use Rattle.juntreak.proofs.Coded as K
-use Rattle.juntreak.proofs.Coded.Laws as K′
+use Rattle.shell.specs.declared.Numbered.{Numbered}
+use Rattle.shell.specs.declared.Coded.{Coded}
+use Rattle.shell.proofs.Numbered as N
+use Rattle.shell.proofs.Numbered.Laws as N′
+use Rattle.shell.proofs.Coded as K
+use Rattle.shell.proofs.Coded.Laws as K′
 
 -- ---- the rows: a record, what one pass over a list finds, and the bytes of a table
 abbrev pub R : RattleType

@@ -1,4 +1,4 @@
--- juntreak_close_record meets its contract: a walk of its MIR, by hand, over `scan`, `close_in` and `apply`. The calls that hold the list are ListCalls' of crate records.
+-- juntreak_close_record meets its contract: a walk of its MIR, by hand, over `scan`, `shell::close_record` and `apply`. The calls that hold the list are ListCalls' of crate records.
 -- Assumes nothing.
 use mathlib.Core.Path.{_≡_, refl, ap}
 use Prim.Native.Nat.{ℕ, _<_, _^_}
@@ -55,16 +55,16 @@ use Rattle.records.proofs.apply.Symbol.{name as #records·apply}
 use Rattle.records.proofs.apply.Met as apply-thm
 use Rattle.scheduler.specs.Scheduler.{closeEffect}
 use Rattle.scheduler.specs.Work.{closeWork}
-use Rattle.juntreak.specs.declared.Coded.{Coded}
-use Rattle.juntreak.specs.Scheduler.{CloseCall, closeCall, CloseIn, closeIn}
-use Rattle.juntreak.proofs.Coded as K
-use Rattle.juntreak.proofs.Coded.Laws as K′
+use Rattle.shell.specs.declared.Coded.{Coded}
+use Rattle.shell.specs.Scheduler.{CloseCall, closeCall, CloseIn, closeIn}
+use Rattle.shell.proofs.Coded as K
+use Rattle.shell.proofs.Coded.Laws as K′
 use Rattle.juntreak.proofs.Scheduler.{closed-called}
 use Rattle.juntreak.proofs.Walks.{R, Q, B, code-fits, coded-change}
-use Rattle.juntreak.proofs.close_in as inner
-use Rattle.juntreak.proofs.close_in.Symbol as inner-def
-use Rattle.juntreak.proofs.close_in.Symbol.{name as #juntreak·close-in}
-use Rattle.juntreak.proofs.close_in.Met as inner-thm
+use Rattle.shell.proofs.close_record as inner
+use Rattle.shell.proofs.close_record.Symbol as inner-def
+use Rattle.shell.proofs.close_record.Symbol.{name as #shell·close-record}
+use Rattle.shell.proofs.close_record.Met as inner-thm
 use Rattle.juntreak.proofs.juntreak_close_record.Key.{name as #juntreak·juntreak-close-record}
 use Rattle.juntreak.proofs.juntreak_close_record as f
 use Rattle.juntreak.proofs.juntreak_close_record.Statement as stated
@@ -150,7 +150,7 @@ module _ {M : Type 1} (𝓤 : URA M) (H : Heap 𝓤) (At : Atoms 𝓤) (W : Give
   abbrev tokens : Item 𝓤
   tokens = ‵ (flft κ₁ q₁) ⊛ ‵ (flft κ₂ q₂) ⊛ ‵ (flft κ₃ q₃) ⊛ ‵ (flft κ₄ q₄) ⊛ ‵ ftrue
 
-  -- ---- the call of `close_in`
+  -- ---- the call of `shell::close_record`
   abbrev InArg : Type 0
   InArg = RefT (List ℕ) × (Summary × (ℕ × (RefT (List ℕ) × (RefT (List ℕ) × (RefT (List ℕ) × Unit {0})))))
 
@@ -197,7 +197,7 @@ module _ {M : Type 1} (𝓤 : URA M) (H : Heap 𝓤) (At : Atoms 𝓤) (W : Give
 
   -- ---- the walk
   module _ (C : Calls 𝓤 H) (Λ : Loops 𝓤 H) (fm : FmC 𝓤 H (W .laws) C) (known-scan : Triple 𝓤 (C #records·scan) (Scan 𝓤 H At mem run))
-      (known-within : Triple 𝓤 (C #juntreak·close-in) (Within 𝓤 H At mem run)) (known-apply : Triple 𝓤 (C #records·apply) (Apply 𝓤 H At mem run)) where
+      (known-within : Triple 𝓤 (C #shell·close-record) (Within 𝓤 H At mem run)) (known-apply : Triple 𝓤 (C #records·apply) (Apply 𝓤 H At mem run)) where
     walk : ent 𝓤 (onEntry 𝓤 H At f.signature (κ₀, (κ₁, (κ₂, (κ₃, (κ₄, tt))))) (q₀, (q₁, (q₂, (q₃, (q₄, tt))))) arg vals) (WpFn 𝓤 H C Λ code.function passed Post)
     walk =
         qed W ((‵ (flft κ₀ q₀) ⊛ tokens) ∷ ‵ (owns rows arg vals) ∷ []) ∵ enter ! C Λ code.function passed _ $
@@ -233,7 +233,7 @@ module _ {M : Type 1} (𝓤 : URA M) (H : Heap 𝓤) (At : Atoms 𝓤) (W : Give
         move ! (4 ∷ []) $ use1 W (‵ OH ⊛ ‵ OH) (shr-slice-copy 𝓤 H At W (named 2) κ₂ u32 .twice xH (svH ∷ [])) $ split ! $
         -- [history's; history's; table's; table's; list's; its token; scratch's; out's; κ₁'s token; κ₂'s; κ₃'s; κ₄'s; locals]
         move ! (8 ∷ 9 ∷ 10 ∷ 11 ∷ 2 ∷ 0 ∷ 6 ∷ 7 ∷ []) $ group ! 8 $ use1 W (raw (Within 𝓤 H At mem run .pre (to-within s v))) (asks-within s v is) $
-        -- [what `close_in` asks; history's; table's; list's; its token; locals]
+        -- [what `shell::close_record` asks; history's; table's; list's; its token; locals]
         calls-at ! fm (Within 𝓤 H At mem run) known-within (to-within s v)
         (and-then ! (load ! (from ! (stop !)) (look ! 37 refl)) (and-then ! (load ! (from ! (stop !)) (look ! 27 refl)) (and-then ! (load ! (from ! (stop !)) (look ! 35 refl)) (and-then ! (load ! (from ! (stop !)) (look ! 33 refl)) (and-then ! (load ! (from ! (stop !)) (look ! 15 refl)) (and-then ! (load ! (from ! (stop !)) (look ! 11 refl)) (no-more !))))))) (λ u.
         use1 W (later (some (λ (k : Coded). (tokens ⊛ ‵ (K.the-row .own k (u ∷ [])))
@@ -274,7 +274,7 @@ module _ {M : Type 1} (𝓤 : URA M) (H : Heap 𝓤) (At : Atoms 𝓤) (W : Give
 
 module _ {M : Type 1} (𝓤 : URA M) (H : Heap 𝓤) (At : Atoms 𝓤) (W : Given 𝓤 H At) (mem : Memory → SProp 𝓤) (run : Routine → Fun 𝓤) where
   close-walks : (C : Calls 𝓤 H) (Λ : Loops 𝓤 H) → FmC 𝓤 H (W .laws) C → Triple 𝓤 (C #records·scan) (Scan 𝓤 H At mem run)
-      → Triple 𝓤 (C #juntreak·close-in) (Within 𝓤 H At mem run)
+      → Triple 𝓤 (C #shell·close-record) (Within 𝓤 H At mem run)
       → Triple 𝓤 (C #records·apply) (Apply 𝓤 H At mem run)
       → Walks 𝓤 H At f.ended stayed (WpFn 𝓤 H C Λ code.function) (f.clauses 𝓤 H At mem run)
   close-walks C Λ fm known-scan known-within known-apply =
@@ -292,7 +292,7 @@ module _ {M : Type 1} (𝓤 : URA M) (H : Heap 𝓤) (At : Atoms 𝓤) (W : Give
 
 close-meets : {M : Type 1} (𝓤 : URA M) (H : Heap 𝓤) (At : Atoms 𝓤) → Given 𝓤 H At → (mem : Memory → SProp 𝓤) (run : Routine → Fun 𝓤) (𝓣 : Tables 𝓤 H)
     → Triple 𝓤 (𝓣 .C #records·scan) (Scan 𝓤 H At mem run)
-    → Triple 𝓤 (𝓣 .C #juntreak·close-in) (Within 𝓤 H At mem run)
+    → Triple 𝓤 (𝓣 .C #shell·close-record) (Within 𝓤 H At mem run)
     → Triple 𝓤 (𝓣 .C #records·apply) (Apply 𝓤 H At mem run)
     → Meets 𝓤 H At f.signature (WpFn 𝓤 H (𝓣 .C) (𝓣 .Λ) code.function) (f.spec 𝓤 H At mem run)
 close-meets 𝓤 H At W mem run 𝓣 known-scan known-within known-apply =
@@ -308,5 +308,5 @@ juntreak-close-record-spec 𝓤 H 𝓜 𝓖 𝓡 =
     (tables 𝓤 H 𝓜 𝓡 code.env .C) (tables 𝓤 H 𝓜 𝓡 code.env .Λ) #juntreak·juntreak-close-record code.function (code.unfolded 𝓤 H 𝓜 𝓡)
     (close-meets 𝓤 H (𝓖 .A) (givenOf 𝓤 H 𝓜 𝓖) (𝓜 .mem) (𝓡 .run) (tablesOf 𝓤 H 𝓜 (tables 𝓤 H 𝓜 𝓡 code.env))
     (cited 𝓤 H (Scan 𝓤 H (𝓖 .A) (𝓜 .mem) (𝓡 .run)) 𝓜 𝓡 code.env #records·scan scan-def.routine code.calls-records·scan (scan-thm.met 𝓤 H 𝓜 𝓖 𝓡))
-    (cited 𝓤 H (Within 𝓤 H (𝓖 .A) (𝓜 .mem) (𝓡 .run)) 𝓜 𝓡 code.env #juntreak·close-in inner-def.routine code.calls-juntreak·close-in (inner-thm.met 𝓤 H 𝓜 𝓖 𝓡))
+    (cited 𝓤 H (Within 𝓤 H (𝓖 .A) (𝓜 .mem) (𝓡 .run)) 𝓜 𝓡 code.env #shell·close-record inner-def.routine code.calls-shell·close-record (inner-thm.met 𝓤 H 𝓜 𝓖 𝓡))
     (cited 𝓤 H (Apply 𝓤 H (𝓖 .A) (𝓜 .mem) (𝓡 .run)) 𝓜 𝓡 code.env #records·apply apply-def.routine code.calls-records·apply (apply-thm.met 𝓤 H 𝓜 𝓖 𝓡)))

@@ -3,7 +3,7 @@ use mathlib.Core.Path.{ap, _∙_}
 use Rattle.table.specs.declared.Table.{Table}
 use Rattle.table.specs.Sound.{ruleDelay}
 use borrow.Author.Needs.{needs}
-use Rattle.juntreak.specs.Answers.{delayAnswer}
+use Rattle.shell.specs.Answers.{delayAnswer}
 use Rattle.juntreak.proofs.juntreak_delay.Statement.{statement}
 use Rattle.juntreak.proofs.juntreak_delay.Tie as tie
 

@@ -1,4 +1,4 @@
--- juntreak_leave meets its contract: a walk of its MIR, by hand, over `scan`, `leave_in` and `apply`. The calls that hold the list are ListCalls' of crate records.
+-- juntreak_leave meets its contract: a walk of its MIR, by hand, over `scan`, `shell::leave` and `apply`. The calls that hold the list are ListCalls' of crate records.
 -- Assumes nothing.
 use mathlib.Core.Path.{_≡_, refl, ap}
 use Prim.Native.Nat.{ℕ, _<_, _^_}
@@ -55,16 +55,16 @@ use Rattle.records.proofs.apply.Symbol.{name as #records·apply}
 use Rattle.records.proofs.apply.Met as apply-thm
 use Rattle.scheduler.specs.Scheduler.{leaveEffect}
 use Rattle.scheduler.specs.Work.{leaveWork}
-use Rattle.juntreak.specs.declared.Numbered.{Numbered}
-use Rattle.juntreak.specs.Scheduler.{LeaveCall, leaveCall, LeaveIn, leaveIn}
-use Rattle.juntreak.proofs.Numbered as N
-use Rattle.juntreak.proofs.Numbered.Laws as N′
+use Rattle.shell.specs.declared.Numbered.{Numbered}
+use Rattle.shell.specs.Scheduler.{LeaveCall, leaveCall, LeaveIn, leaveIn}
+use Rattle.shell.proofs.Numbered as N
+use Rattle.shell.proofs.Numbered.Laws as N′
 use Rattle.juntreak.proofs.Scheduler.{left-called}
 use Rattle.juntreak.proofs.Walks.{R, Q, B, number-fits, numbered-change}
-use Rattle.juntreak.proofs.leave_in as inner
-use Rattle.juntreak.proofs.leave_in.Symbol as inner-def
-use Rattle.juntreak.proofs.leave_in.Symbol.{name as #juntreak·leave-in}
-use Rattle.juntreak.proofs.leave_in.Met as inner-thm
+use Rattle.shell.proofs.leave as inner
+use Rattle.shell.proofs.leave.Symbol as inner-def
+use Rattle.shell.proofs.leave.Symbol.{name as #shell·leave}
+use Rattle.shell.proofs.leave.Met as inner-thm
 use Rattle.juntreak.proofs.juntreak_leave.Key.{name as #juntreak·juntreak-leave}
 use Rattle.juntreak.proofs.juntreak_leave as f
 use Rattle.juntreak.proofs.juntreak_leave.Statement as stated
@@ -141,7 +141,7 @@ module _ {M : Type 1} (𝓤 : URA M) (H : Heap 𝓤) (At : Atoms 𝓤) (W : Give
   abbrev tokens : Item 𝓤
   tokens = ‵ (flft κ₁ q₁) ⊛ ‵ (flft κ₂ q₂) ⊛ ‵ (flft κ₃ q₃) ⊛ ‵ ftrue
 
-  -- ---- the call of `leave_in`
+  -- ---- the call of `shell::leave`
   abbrev InArg : Type 0
   InArg = RefT (List ℕ) × (Summary × (ℕ × (RefT (List ℕ) × (RefT (List ℕ) × Unit {0}))))
 
@@ -188,7 +188,7 @@ module _ {M : Type 1} (𝓤 : URA M) (H : Heap 𝓤) (At : Atoms 𝓤) (W : Give
 
   -- ---- the walk
   module _ (C : Calls 𝓤 H) (Λ : Loops 𝓤 H) (fm : FmC 𝓤 H (W .laws) C) (known-scan : Triple 𝓤 (C #records·scan) (Scan 𝓤 H At mem run))
-      (known-within : Triple 𝓤 (C #juntreak·leave-in) (Within 𝓤 H At mem run)) (known-apply : Triple 𝓤 (C #records·apply) (Apply 𝓤 H At mem run)) where
+      (known-within : Triple 𝓤 (C #shell·leave) (Within 𝓤 H At mem run)) (known-apply : Triple 𝓤 (C #records·apply) (Apply 𝓤 H At mem run)) where
     walk : ent 𝓤 (onEntry 𝓤 H At f.signature (κ₀, (κ₁, (κ₂, (κ₃, tt)))) (q₀, (q₁, (q₂, (q₃, tt)))) arg vals) (WpFn 𝓤 H C Λ code.function passed Post)
     walk =
         qed W ((‵ (flft κ₀ q₀) ⊛ tokens) ∷ ‵ (owns rows arg vals) ∷ []) ∵ enter ! C Λ code.function passed _ $
@@ -219,7 +219,7 @@ module _ {M : Type 1} (𝓤 : URA M) (H : Heap 𝓤) (At : Atoms 𝓤) (W : Give
         move ! (4 ∷ []) $ use1 W (‵ OB ⊛ ‵ OB) (shr-slice-copy 𝓤 H At W (named 2) κ₂ u32 .twice xB (svB ∷ [])) $ split ! $
         -- [block's; block's; table's; table's; list's; its token; waiting's; κ₁'s token; κ₂'s; κ₃'s; locals]
         move ! (7 ∷ 8 ∷ 9 ∷ 2 ∷ 0 ∷ 6 ∷ []) $ group ! 6 $ use1 W (raw (Within 𝓤 H At mem run .pre (to-within s v))) (asks-within s v is) $
-        -- [what `leave_in` asks; block's; table's; list's; its token; locals]
+        -- [what `shell::leave` asks; block's; table's; list's; its token; locals]
         calls-at ! fm (Within 𝓤 H At mem run) known-within (to-within s v)
         (and-then ! (load ! (from ! (stop !)) (look ! 31 refl)) (and-then ! (load ! (from ! (stop !)) (look ! 23 refl)) (and-then ! (load ! (from ! (stop !)) (look ! 29 refl)) (and-then ! (load ! (from ! (stop !)) (look ! 27 refl)) (and-then ! (load ! (from ! (stop !)) (look ! 11 refl)) (no-more !)))))) (λ u.
         use1 W (later (some (λ (k : Numbered). (tokens ⊛ ‵ (N.the-row .own k (u ∷ [])))
@@ -258,7 +258,7 @@ module _ {M : Type 1} (𝓤 : URA M) (H : Heap 𝓤) (At : Atoms 𝓤) (W : Give
 
 module _ {M : Type 1} (𝓤 : URA M) (H : Heap 𝓤) (At : Atoms 𝓤) (W : Given 𝓤 H At) (mem : Memory → SProp 𝓤) (run : Routine → Fun 𝓤) where
   leave-walks : (C : Calls 𝓤 H) (Λ : Loops 𝓤 H) → FmC 𝓤 H (W .laws) C → Triple 𝓤 (C #records·scan) (Scan 𝓤 H At mem run)
-      → Triple 𝓤 (C #juntreak·leave-in) (Within 𝓤 H At mem run)
+      → Triple 𝓤 (C #shell·leave) (Within 𝓤 H At mem run)
       → Triple 𝓤 (C #records·apply) (Apply 𝓤 H At mem run)
       → Walks 𝓤 H At f.ended stayed (WpFn 𝓤 H C Λ code.function) (f.clauses 𝓤 H At mem run)
   leave-walks C Λ fm known-scan known-within known-apply =
@@ -275,7 +275,7 @@ module _ {M : Type 1} (𝓤 : URA M) (H : Heap 𝓤) (At : Atoms 𝓤) (W : Give
 
 leave-meets : {M : Type 1} (𝓤 : URA M) (H : Heap 𝓤) (At : Atoms 𝓤) → Given 𝓤 H At → (mem : Memory → SProp 𝓤) (run : Routine → Fun 𝓤) (𝓣 : Tables 𝓤 H)
     → Triple 𝓤 (𝓣 .C #records·scan) (Scan 𝓤 H At mem run)
-    → Triple 𝓤 (𝓣 .C #juntreak·leave-in) (Within 𝓤 H At mem run)
+    → Triple 𝓤 (𝓣 .C #shell·leave) (Within 𝓤 H At mem run)
     → Triple 𝓤 (𝓣 .C #records·apply) (Apply 𝓤 H At mem run)
     → Meets 𝓤 H At f.signature (WpFn 𝓤 H (𝓣 .C) (𝓣 .Λ) code.function) (f.spec 𝓤 H At mem run)
 leave-meets 𝓤 H At W mem run 𝓣 known-scan known-within known-apply =
@@ -291,5 +291,5 @@ juntreak-leave-spec 𝓤 H 𝓜 𝓖 𝓡 =
     (tables 𝓤 H 𝓜 𝓡 code.env .C) (tables 𝓤 H 𝓜 𝓡 code.env .Λ) #juntreak·juntreak-leave code.function (code.unfolded 𝓤 H 𝓜 𝓡)
     (leave-meets 𝓤 H (𝓖 .A) (givenOf 𝓤 H 𝓜 𝓖) (𝓜 .mem) (𝓡 .run) (tablesOf 𝓤 H 𝓜 (tables 𝓤 H 𝓜 𝓡 code.env))
     (cited 𝓤 H (Scan 𝓤 H (𝓖 .A) (𝓜 .mem) (𝓡 .run)) 𝓜 𝓡 code.env #records·scan scan-def.routine code.calls-records·scan (scan-thm.met 𝓤 H 𝓜 𝓖 𝓡))
-    (cited 𝓤 H (Within 𝓤 H (𝓖 .A) (𝓜 .mem) (𝓡 .run)) 𝓜 𝓡 code.env #juntreak·leave-in inner-def.routine code.calls-juntreak·leave-in (inner-thm.met 𝓤 H 𝓜 𝓖 𝓡))
+    (cited 𝓤 H (Within 𝓤 H (𝓖 .A) (𝓜 .mem) (𝓡 .run)) 𝓜 𝓡 code.env #shell·leave inner-def.routine code.calls-shell·leave (inner-thm.met 𝓤 H 𝓜 𝓖 𝓡))
     (cited 𝓤 H (Apply 𝓤 H (𝓖 .A) (𝓜 .mem) (𝓡 .run)) 𝓜 𝓡 code.env #records·apply apply-def.routine code.calls-records·apply (apply-thm.met 𝓤 H 𝓜 𝓖 𝓡)))

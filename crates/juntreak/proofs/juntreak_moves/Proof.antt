@@ -1,7 +1,7 @@
 -- What the callee ensures. Assumes nothing.
 use mathlib.Core.Path.{ap}
 use borrow.Author.Needs.{needs}
-use Rattle.juntreak.specs.Answers.{movesAnswer}
+use Rattle.shell.specs.Answers.{movesAnswer}
 use Rattle.juntreak.proofs.juntreak_moves.Statement.{statement}
 use Rattle.juntreak.proofs.juntreak_moves.Tie as tie
 

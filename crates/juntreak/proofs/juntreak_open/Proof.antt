@@ -5,7 +5,7 @@ use Rattle.flat.specs.Sessions.{sessionWritten}
 use Rattle.session.specs.declared.Opening.{Opening}
 use Rattle.session.specs.Session.{opening}
 use borrow.Author.Needs.{needs}
-use Rattle.juntreak.specs.Answers.{leaves}
+use Rattle.shell.specs.Answers.{leaves}
 use Rattle.juntreak.proofs.juntreak_open.Statement.{statement}
 use Rattle.juntreak.proofs.juntreak_open.Tie as tie
 

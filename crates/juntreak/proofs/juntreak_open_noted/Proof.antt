@@ -6,7 +6,7 @@ use Rattle.session.specs.Session.{opening}
 use Rattle.registers.specs.Registers.{afterCall}
 use Rattle.noted.specs.Noted.{openOutcome}
 use borrow.Author.Needs.{needs}
-use Rattle.juntreak.specs.Answers.{stored}
+use Rattle.shell.specs.Answers.{stored}
 use Rattle.juntreak.proofs.juntreak_open_noted.Statement.{statement}
 use Rattle.juntreak.proofs.juntreak_open_noted.Tie as tie
 

@@ -3,7 +3,7 @@ use mathlib.Core.Path.{ap, _∙_}
 use Rattle.text.specs.declared.Typed.{Typed}
 use Rattle.flat.specs.Flat.{written}
 use borrow.Author.Needs.{needs}
-use Rattle.juntreak.specs.Answers.{leaves, textAnswer}
+use Rattle.shell.specs.Answers.{leaves, textAnswer}
 use Rattle.juntreak.proofs.juntreak_read_text.Statement.{statement}
 use Rattle.juntreak.proofs.juntreak_read_text.Tie as tie
 

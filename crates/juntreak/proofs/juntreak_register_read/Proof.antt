@@ -1,7 +1,7 @@
 -- The number and the byte, as one number. Assumes nothing.
 use mathlib.Core.Path.{ap}
 use borrow.Author.Needs.{needs}
-use Rattle.juntreak.specs.Answers.{registerAnswer}
+use Rattle.shell.specs.Answers.{registerAnswer}
 use Rattle.juntreak.proofs.juntreak_register_read.Statement.{statement}
 use Rattle.juntreak.proofs.juntreak_register_read.Tie as tie
 

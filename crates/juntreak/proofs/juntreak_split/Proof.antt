@@ -5,7 +5,7 @@ use mathlib.Core.Path.{ap, _∙_}
 use borrow.Author.Needs.{needs}
 use Rattle.interval.specs.declared.Splitting.{Splitting}
 use Rattle.interval.proofs.Laws.{splitting-count}
-use Rattle.juntreak.specs.Answers.{leaves, splitAnswer}
+use Rattle.shell.specs.Answers.{leaves, splitAnswer}
 use Rattle.juntreak.proofs.juntreak_split.Statement.{statement}
 use Rattle.juntreak.proofs.juntreak_split.Tie as tie
 

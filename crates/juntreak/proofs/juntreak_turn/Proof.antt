@@ -1,4 +1,4 @@
--- juntreak_turn meets its contract: a walk of its MIR, by hand, over `scan`, `turn_in` and `apply`. The calls that hold the list are ListCalls' of crate records.
+-- juntreak_turn meets its contract: a walk of its MIR, by hand, over `scan`, `shell::turn` and `apply`. The calls that hold the list are ListCalls' of crate records.
 -- Assumes nothing.
 use mathlib.Core.Path.{_≡_, refl, ap}
 use Prim.Native.Nat.{ℕ, _<_, _^_}
@@ -55,16 +55,16 @@ use Rattle.records.proofs.apply.Symbol.{name as #records·apply}
 use Rattle.records.proofs.apply.Met as apply-thm
 use Rattle.scheduler.specs.Scheduler.{turnEffect}
 use Rattle.scheduler.specs.Work.{turnWork}
-use Rattle.juntreak.specs.declared.Coded.{Coded}
-use Rattle.juntreak.specs.Scheduler.{TurnCall, turnCall, TurnIn, turnIn}
-use Rattle.juntreak.proofs.Coded as K
-use Rattle.juntreak.proofs.Coded.Laws as K′
+use Rattle.shell.specs.declared.Coded.{Coded}
+use Rattle.shell.specs.Scheduler.{TurnCall, turnCall, TurnIn, turnIn}
+use Rattle.shell.proofs.Coded as K
+use Rattle.shell.proofs.Coded.Laws as K′
 use Rattle.juntreak.proofs.Scheduler.{turned-called}
 use Rattle.juntreak.proofs.Walks.{R, Q, B, code-fits, coded-change}
-use Rattle.juntreak.proofs.turn_in as inner
-use Rattle.juntreak.proofs.turn_in.Symbol as inner-def
-use Rattle.juntreak.proofs.turn_in.Symbol.{name as #juntreak·turn-in}
-use Rattle.juntreak.proofs.turn_in.Met as inner-thm
+use Rattle.shell.proofs.turn as inner
+use Rattle.shell.proofs.turn.Symbol as inner-def
+use Rattle.shell.proofs.turn.Symbol.{name as #shell·turn}
+use Rattle.shell.proofs.turn.Met as inner-thm
 use Rattle.juntreak.proofs.juntreak_turn.Key.{name as #juntreak·juntreak-turn}
 use Rattle.juntreak.proofs.juntreak_turn as f
 use Rattle.juntreak.proofs.juntreak_turn.Statement as stated
@@ -159,7 +159,7 @@ module _ {M : Type 1} (𝓤 : URA M) (H : Heap 𝓤) (At : Atoms 𝓤) (W : Give
   abbrev tokens : Item 𝓤
   tokens = ‵ (flft κ₁ q₁) ⊛ ‵ (flft κ₂ q₂) ⊛ ‵ (flft κ₃ q₃) ⊛ ‵ (flft κ₄ q₄) ⊛ ‵ (flft κ₅ q₅) ⊛ ‵ ftrue
 
-  -- ---- the call of `turn_in`
+  -- ---- the call of `shell::turn`
   abbrev InArg : Type 0
   InArg = RefT (List ℕ) × (Summary × (ℕ × (RefT (List ℕ) × (RefT (List ℕ) × (RefT (List ℕ) × (RefT (List ℕ) × Unit {0}))))))
 
@@ -206,7 +206,7 @@ module _ {M : Type 1} (𝓤 : URA M) (H : Heap 𝓤) (At : Atoms 𝓤) (W : Give
 
   -- ---- the walk
   module _ (C : Calls 𝓤 H) (Λ : Loops 𝓤 H) (fm : FmC 𝓤 H (W .laws) C) (known-scan : Triple 𝓤 (C #records·scan) (Scan 𝓤 H At mem run))
-      (known-within : Triple 𝓤 (C #juntreak·turn-in) (Within 𝓤 H At mem run)) (known-apply : Triple 𝓤 (C #records·apply) (Apply 𝓤 H At mem run)) where
+      (known-within : Triple 𝓤 (C #shell·turn) (Within 𝓤 H At mem run)) (known-apply : Triple 𝓤 (C #records·apply) (Apply 𝓤 H At mem run)) where
     walk : ent 𝓤 (onEntry 𝓤 H At f.signature (κ₀, (κ₁, (κ₂, (κ₃, (κ₄, (κ₅, tt)))))) (q₀, (q₁, (q₂, (q₃, (q₄, (q₅, tt)))))) arg vals) (WpFn 𝓤 H C Λ code.function passed Post)
     walk =
         qed W ((‵ (flft κ₀ q₀) ⊛ tokens) ∷ ‵ (owns rows arg vals) ∷ []) ∵ enter ! C Λ code.function passed _ $
@@ -246,7 +246,7 @@ module _ {M : Type 1} (𝓤 : URA M) (H : Heap 𝓤) (At : Atoms 𝓤) (W : Give
         move ! (5 ∷ []) $ use1 W (‵ OW ⊛ ‵ OW) (shr-slice-copy 𝓤 H At W (named 3) κ₃ u32 .twice xW (svW ∷ [])) $ split ! $
         -- [waiting's; waiting's; table's; table's; list's; its token; history's; scratch's; out's; κ₁'s token; κ₂'s; κ₃'s; κ₄'s; κ₅'s; locals]
         move ! (9 ∷ 10 ∷ 11 ∷ 12 ∷ 13 ∷ 2 ∷ 6 ∷ 0 ∷ 7 ∷ 8 ∷ []) $ group ! 10 $ use1 W (raw (Within 𝓤 H At mem run .pre (to-within s v))) (asks-within s v is) $
-        -- [what `turn_in` asks; waiting's; table's; list's; its token; locals]
+        -- [what `shell::turn` asks; waiting's; table's; list's; its token; locals]
         calls-at ! fm (Within 𝓤 H At mem run) known-within (to-within s v)
         (and-then ! (load ! (from ! (stop !)) (look ! 43 refl)) (and-then ! (load ! (from ! (stop !)) (look ! 31 refl)) (and-then ! (load ! (from ! (stop !)) (look ! 41 refl)) (and-then ! (load ! (from ! (stop !)) (look ! 19 refl)) (and-then ! (load ! (from ! (stop !)) (look ! 37 refl)) (and-then ! (load ! (from ! (stop !)) (look ! 15 refl)) (and-then ! (load ! (from ! (stop !)) (look ! 11 refl)) (no-more !)))))))) (λ u.
         use1 W (later (some (λ (k : Coded). (tokens ⊛ ‵ (K.the-row .own k (u ∷ [])))
@@ -288,7 +288,7 @@ module _ {M : Type 1} (𝓤 : URA M) (H : Heap 𝓤) (At : Atoms 𝓤) (W : Give
 
 module _ {M : Type 1} (𝓤 : URA M) (H : Heap 𝓤) (At : Atoms 𝓤) (W : Given 𝓤 H At) (mem : Memory → SProp 𝓤) (run : Routine → Fun 𝓤) where
   turn-walks : (C : Calls 𝓤 H) (Λ : Loops 𝓤 H) → FmC 𝓤 H (W .laws) C → Triple 𝓤 (C #records·scan) (Scan 𝓤 H At mem run)
-      → Triple 𝓤 (C #juntreak·turn-in) (Within 𝓤 H At mem run)
+      → Triple 𝓤 (C #shell·turn) (Within 𝓤 H At mem run)
       → Triple 𝓤 (C #records·apply) (Apply 𝓤 H At mem run)
       → Walks 𝓤 H At f.ended stayed (WpFn 𝓤 H C Λ code.function) (f.clauses 𝓤 H At mem run)
   turn-walks C Λ fm known-scan known-within known-apply =
@@ -307,7 +307,7 @@ module _ {M : Type 1} (𝓤 : URA M) (H : Heap 𝓤) (At : Atoms 𝓤) (W : Give
 
 turn-meets : {M : Type 1} (𝓤 : URA M) (H : Heap 𝓤) (At : Atoms 𝓤) → Given 𝓤 H At → (mem : Memory → SProp 𝓤) (run : Routine → Fun 𝓤) (𝓣 : Tables 𝓤 H)
     → Triple 𝓤 (𝓣 .C #records·scan) (Scan 𝓤 H At mem run)
-    → Triple 𝓤 (𝓣 .C #juntreak·turn-in) (Within 𝓤 H At mem run)
+    → Triple 𝓤 (𝓣 .C #shell·turn) (Within 𝓤 H At mem run)
     → Triple 𝓤 (𝓣 .C #records·apply) (Apply 𝓤 H At mem run)
     → Meets 𝓤 H At f.signature (WpFn 𝓤 H (𝓣 .C) (𝓣 .Λ) code.function) (f.spec 𝓤 H At mem run)
 turn-meets 𝓤 H At W mem run 𝓣 known-scan known-within known-apply =
@@ -323,5 +323,5 @@ juntreak-turn-spec 𝓤 H 𝓜 𝓖 𝓡 =
     (tables 𝓤 H 𝓜 𝓡 code.env .C) (tables 𝓤 H 𝓜 𝓡 code.env .Λ) #juntreak·juntreak-turn code.function (code.unfolded 𝓤 H 𝓜 𝓡)
     (turn-meets 𝓤 H (𝓖 .A) (givenOf 𝓤 H 𝓜 𝓖) (𝓜 .mem) (𝓡 .run) (tablesOf 𝓤 H 𝓜 (tables 𝓤 H 𝓜 𝓡 code.env))
     (cited 𝓤 H (Scan 𝓤 H (𝓖 .A) (𝓜 .mem) (𝓡 .run)) 𝓜 𝓡 code.env #records·scan scan-def.routine code.calls-records·scan (scan-thm.met 𝓤 H 𝓜 𝓖 𝓡))
-    (cited 𝓤 H (Within 𝓤 H (𝓖 .A) (𝓜 .mem) (𝓡 .run)) 𝓜 𝓡 code.env #juntreak·turn-in inner-def.routine code.calls-juntreak·turn-in (inner-thm.met 𝓤 H 𝓜 𝓖 𝓡))
+    (cited 𝓤 H (Within 𝓤 H (𝓖 .A) (𝓜 .mem) (𝓡 .run)) 𝓜 𝓡 code.env #shell·turn inner-def.routine code.calls-shell·turn (inner-thm.met 𝓤 H 𝓜 𝓖 𝓡))
     (cited 𝓤 H (Apply 𝓤 H (𝓖 .A) (𝓜 .mem) (𝓡 .run)) 𝓜 𝓡 code.env #records·apply apply-def.routine code.calls-records·apply (apply-thm.met 𝓤 H 𝓜 𝓖 𝓡)))

@@ -4,7 +4,7 @@ use Rattle.session.specs.declared.Opening.{Opening}
 use Rattle.narrow.specs.declared.NarrowSession.{NarrowSession}
 use Rattle.narrow.specs.Narrow.{wideOf, widening}
 use borrow.Author.Needs.{needs}
-use Rattle.juntreak.specs.Answers.{stored}
+use Rattle.shell.specs.Answers.{stored}
 use Rattle.juntreak.proofs.juntreak_widen.Statement.{statement}
 use Rattle.juntreak.proofs.juntreak_widen.Tie as tie
 

@@ -6,7 +6,7 @@ use Rattle.narrow.specs.Narrow.{wideOf, widening}
 use Rattle.registers.specs.Registers.{afterCall}
 use Rattle.noted.specs.Noted.{widenOutcome}
 use borrow.Author.Needs.{needs}
-use Rattle.juntreak.specs.Answers.{stored}
+use Rattle.shell.specs.Answers.{stored}
 use Rattle.juntreak.proofs.juntreak_widen_noted.Statement.{statement}
 use Rattle.juntreak.proofs.juntreak_widen_noted.Tie as tie
 

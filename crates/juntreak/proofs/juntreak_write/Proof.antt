@@ -8,7 +8,7 @@ use Rattle.table.specs.declared.Table.{Table}
 use Rattle.book.specs.declared.Writing.{Writing}
 use Rattle.book.specs.Writing.{writing, writtenInto}
 use Rattle.book.proofs.Back.{relied}
-use Rattle.juntreak.specs.Answers.{writeAnswer}
+use Rattle.shell.specs.Answers.{writeAnswer}
 use Rattle.juntreak.proofs.juntreak_write.Statement.{statement}
 use Rattle.juntreak.proofs.juntreak_write.Tie as tie
 
