@@ -5,4 +5,4 @@ mod History
 -- what the parts of open, feed and close answer, put together
 pub mod Answers
 -- the session that a feed hands back, by what it answers without
-mod Handed
+pub mod Handed

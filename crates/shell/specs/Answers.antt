@@ -19,6 +19,7 @@ use Rattle.early.specs.Early.{Told, refused, value}
 use Rattle.reach.specs.Reach.{Reached, refused as not-reached, empty, ticks}
 use Rattle.registers.specs.declared.Reading.{Reading}
 use Rattle.session.specs.declared.Answer.{Answer}
+use Rattle.session.specs.declared.Step.{Step}
 use Rattle.session.specs.declared.Opening.{Opening}
 use Rattle.session.specs.Session.{Effect}
 
@@ -53,6 +54,9 @@ movesAnswer d = d .number + 256 * d .exponent + 65536 * d .count + 4294967296 * 
 -- the number of a refusal and, above it, the count of verdicts
 abbrev pub sessionAnswer : Answer → ℕ
 sessionAnswer r = r .number + 4294967296 * r .count
+
+abbrev pub stepAnswer : Step → ℕ
+stepAnswer k = k .number + 4294967296 * k .count
 
 -- the number of a refusal and, above it, the byte at a place
 abbrev pub registerAnswer : Reading → ℕ

@@ -1,8 +1,8 @@
 // What the exported functions do over bytes, each answer as one number. A refused call writes nothing but the status registers that it is
 // lent.
 ghost use mathlib.Core.Path.{_≡_};
-ghost use Prim.Native.Nat.{_≤_};
-ghost use Rattle.limits.specs.Limits.{maxDelay};
+ghost use Prim.Native.Nat.{_+_, _≤_};
+ghost use Rattle.limits.specs.Limits.{maxDelay, maxSeen};
 ghost use Rattle.mltl.specs.Mltl.{delay};
 ghost use Rattle.table.specs.Nodes.{waitOf};
 ghost use Rattle.book.specs.Reading.{codeOf};
@@ -14,7 +14,7 @@ ghost use Rattle.registers.specs.Registers.{afterCall};
 ghost use Rattle.noted.specs.Noted.{feedOutcome, closeOutcome};
 ghost use Rattle.flat.specs.Flat.{tableFrom, written};
 ghost use Rattle.flat.specs.Sessions.{sessionFrom, sessionWritten, renewed};
-ghost use Rattle.shell.specs.Answers.{leaves, textAnswer, sessionAnswer, earlyAnswer, reachAnswer, rangeAfter, counted, Called};
+ghost use Rattle.shell.specs.Answers.{leaves, textAnswer, sessionAnswer, stepAnswer, earlyAnswer, reachAnswer, rangeAfter, counted, Called};
 ghost use Rattle.shell.specs.Scheduler.{turnCode, leaveIn, turnIn, closeIn};
 use book::Reading;
 use early::Decision;
@@ -28,6 +28,7 @@ use records::Summary;
 use scheduler::Turning;
 use session::Answer;
 use session::Session;
+use session::Step;
 use table::Table;
 use text::Typed;
 
@@ -132,6 +133,19 @@ fn put_answer(r: Answer, b: &mut [u8; SESSION_BYTES]) -> u64
     r.number as u64 + 4294967296 * (r.count as u64)
 }
 
+// The same for n states more, without the session that a feed hands back: it would be copied at each feed.
+fn put_step(k: Step, seen: u64, n: usize, b: &mut [u8; SESSION_BYTES]) -> u64
+    requires { ⌜ (k .count ≤ maxDelay) × (k .number ≡ 0 → seen + n ≤ maxSeen) ⌝ }
+    ensures { λ r. ⌜ (r ≡ stepAnswer k) × (now (b .exit) ≡ leaves (k .number) (renewed (seen + n) (now (b .entry))) (now (b .entry))) ⌝ }
+{
+    let answer = k.number as u64 + 4294967296 * (k.count as u64);
+    if k.number != 0 {
+        return answer;
+    }
+    flat::write_seen(seen + n as u64, b);
+    answer
+}
+
 // The verdicts that a block of states settles.
 pub fn feed(
     session: &mut [u8; SESSION_BYTES],
@@ -143,8 +157,9 @@ pub fn feed(
     ensures { λ r. ⌜ Called renewed (feeding (sessionFrom (now (session .entry))) (now (block .entry)) (now (history .entry)) (now (scratch .entry)) (now (out .entry))) (now (session .entry)) r (now (session .exit)) (now (history .exit)) (now (scratch .exit)) (now (out .exit)) ⌝ }
 {
     let s = flat::read_session(session);
-    let r = s.feed(block, history, scratch, out);
-    put_answer(r, session)
+    let t = s.table;
+    let k = session::feed_rule(t, s.rule, s.seen, block, history, scratch, out);
+    put_step(k, s.seen, block.len(), session)
 }
 
 // The verdicts of the states that history still holds; where `old`, by the delay before A5.
