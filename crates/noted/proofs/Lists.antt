@@ -1,6 +1,6 @@
 -- `every-list`: every list of session calls and writes leaves the registers that the definition by history gives. Assumes nothing.
 use Prim.Native.Nat.{ℕ}
-use mathlib.Core.Path.{_≡_, refl, sym, _∙_}
+use mathlib.Core.Path.{_≡_, refl, _∙_}
 use mathlib.Core.List.{List, [], _∷_, map, foldl}
 use Rattle.registers.specs.Registers.{zeros}
 use Rattle.registers.specs.History.{step}

@@ -1,7 +1,7 @@
 -- The outcome of a call by the place of its first no; and that the ticks of an accepted call's verdicts can be counted. Assumes nothing.
 use Prim.Native.Nat.{ℕ, _+_, _-_, _≤_, _<_, min}
 use native.Mathlib.Omega.{arith}
-use mathlib.Core.Path.{_≡_, refl, sym, ap, ap₂, _∙_}
+use mathlib.Core.Path.{_≡_, refl, ap, _∙_}
 use mathlib.Core.Bool.{Bool, true, false, not}
 use mathlib.Core.List.{List, [], _∷_}
 use mathlib.Core.Logic.{⊎-elim}
@@ -10,7 +10,6 @@ use lib.Dec.{ltb, eqb}
 use lib.ListN.{length}
 use Rattle.limits.specs.Limits.{maxSeen}
 use Rattle.lists.specs.Sequence.{ticks, some}
-use Rattle.lists.specs.Bits.{bitAt}
 use Rattle.lists.proofs.Sequences.{length-ticks}
 use Rattle.lists.proofs.Tests.{true-or-false}
 use Rattle.mltl.specs.Mltl.{delay}
@@ -26,18 +25,7 @@ use Rattle.registers.specs.declared.Outcome.{Outcome}
 use Rattle.registers.specs.Registers.{afterCall}
 use Rattle.noted.specs.Noted.{placeOfNo, outcomeOf, verdictsIn, given}
 use Rattle.noted.specs.Code.Steps.{Countable}
-
-some-no : (vs : List Bool) → placeOfNo vs < length vs → some not vs ≡ true
-unfolding some
-some-no [] h = absurd (omega arith)
-some-no (true ∷ vs) h = some-no vs (omega arith)
-some-no (false ∷ vs) h = refl
-
-all-yes : (vs : List Bool) → length vs ≤ placeOfNo vs → some not vs ≡ false
-unfolding some
-all-yes [] h = refl
-all-yes (true ∷ vs) h = all-yes vs (omega arith)
-all-yes (false ∷ vs) h = absurd (omega arith)
+use Rattle.noted.proofs.Places.{some-no, all-yes}
 
 pub without : (kind : Kind) (number : ℕ) → _≡_ {A = Outcome} (record { kind = kind; number = number; gives = false; fails = false; tick = 0 }) (outcomeOf kind number [] 0)
 unfolding some

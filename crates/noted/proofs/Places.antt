@@ -1,5 +1,5 @@
 -- The place of the first no among verdicts. Assumes nothing.
-use Prim.Native.Nat.{ℕ, zero, suc, _<_}
+use Prim.Native.Nat.{ℕ, zero, suc, _≤_, _<_}
 use native.Mathlib.Omega.{arith}
 use mathlib.Core.Path.{_≡_, refl}
 use mathlib.Core.Bool.{Bool, true, false, not, false≢true}
@@ -25,3 +25,16 @@ place-earlier [] i h = absurd (omega arith)
 place-earlier (true ∷ vs) zero h = refl
 place-earlier (true ∷ vs) (suc i) h = place-earlier vs i (omega arith)
 place-earlier (false ∷ vs) i h = absurd (omega arith)
+
+-- ---- whether there is one
+pub some-no : (vs : List Bool) → placeOfNo vs < length vs → some not vs ≡ true
+unfolding some
+some-no [] h = absurd (omega arith)
+some-no (true ∷ vs) h = some-no vs (omega arith)
+some-no (false ∷ vs) h = refl
+
+pub all-yes : (vs : List Bool) → length vs ≤ placeOfNo vs → some not vs ≡ false
+unfolding some
+all-yes [] h = refl
+all-yes (true ∷ vs) h = all-yes vs (omega arith)
+all-yes (false ∷ vs) h = absurd (omega arith)

@@ -1,20 +1,19 @@
 -- The first no, word by word: the clear bit of a word by its trailing ones, and the verdicts of the words that are passed by. Assumes nothing.
 use Prim.Native.Nat.{ℕ, zero, suc, _+_, _-_, _*_, _/_, _%_, _^_, _≤_, _<_, min}
 use native.Mathlib.Omega.{arith}
-use native.Mathlib.Nat.{pow-suc}
 use mathlib.Core.Path.{_≡_, refl, sym, ap, _∙_}
 use mathlib.Core.Bool.{Bool, true, false, not, _||_}
 use mathlib.Core.List.{List, [], _∷_, _++_}
 use mathlib.Core.Logic.{⊎-elim}
-use lib.Count.{trailingZeros, under, trailing-le}
-use lib.Dec.{eqb, ltb, leb}
+use lib.Count.{trailingZeros}
+use lib.Dec.{ltb, leb}
 use lib.ListN.{length, getD}
 use Rattle.lists.specs.Sequence.{ticks}
 use Rattle.lists.specs.Bits.{bit, bitAt}
 use Rattle.lists.proofs.Tests.{lt-or-le, or-left, or-right, or-split}
 use borrow.Author.Tests.{ltb-true, ltb-false, leb-true, leb-false}
 use Rattle.lists.proofs.Sequences.{length-ticks, ticks-add, ticks-ext}
-use Rattle.lists.proofs.Bits.{bit-zero, bit-suc}
+use Rattle.lists.proofs.Bits.{bit-zero, bit-suc, half, not-half, not-last}
 use Rattle.lists.proofs.Columns.{bitAt-at, bitAt-past}
 use Rattle.noted.specs.Noted.{placeOfNo}
 
@@ -29,18 +28,7 @@ place-past [] us h = omega arith
 place-past (true ∷ vs) us h = let e = place-past vs us (omega arith) in omega arith
 place-past (false ∷ vs) us h = absurd (omega arith)
 
--- ---- one word
-module _ (k x : ℕ) (h : x < 2 ^ suc k) where
-  half-lt : x / 2 < 2 ^ k
-  half-lt = let g : x < 2 ^ k * 2 = rw pow-suc at h in omega arith
-
-  rest-half : ((2 ^ suc k - 1) - x) / 2 ≡ (2 ^ k - 1) - x / 2
-  rest-half = let g : x < 2 ^ k * 2 = rw pow-suc at h in rw pow-suc (omega arith)
-
-  rest-last : ((2 ^ suc k - 1) - x) % 2 ≡ 1 - x % 2
-  rest-last = let g : x < 2 ^ k * 2 = rw pow-suc at h in rw pow-suc (omega arith)
-
--- its first clear bit among n
+-- ---- one word: its first clear bit among n
 module _ (k x n : ℕ) (h : x < 2 ^ suc k) (rest : placeOfNo (ticks (bit (x / 2)) n) ≡ min (trailingZeros k ((2 ^ k - 1) - x / 2)) n) where
   later : ticks (λ i. bit x (suc i)) n ≡ ticks (bit (x / 2)) n
   later = ticks-ext (λ i. bit x (suc i)) (bit (x / 2)) n (λ i l. bit-suc x i)
@@ -48,17 +36,17 @@ module _ (k x n : ℕ) (h : x < 2 ^ suc k) (rest : placeOfNo (ticks (bit (x / 2)
   last-yes : x % 2 ≡ 1 → placeOfNo (ticks (bit x) (suc n)) ≡ min (trailingZeros (suc k) ((2 ^ suc k - 1) - x)) (suc n)
   unfolding trailingZeros
   last-yes e =
-      rw (bit-zero x, e, later, rest, rest-last k x h, e, rest-half k x h) (omega arith)
+      rw (bit-zero x, e, later, rest, not-last k x h, e, not-half k x h) (omega arith)
 
   last-no : x % 2 ≡ 0 → placeOfNo (ticks (bit x) (suc n)) ≡ min (trailingZeros (suc k) ((2 ^ suc k - 1) - x)) (suc n)
   unfolding trailingZeros
-  last-no e = rw (bit-zero x, e, rest-last k x h, e) (omega arith)
+  last-no e = rw (bit-zero x, e, not-last k x h, e) (omega arith)
 
 pub clear-bit : (k x n : ℕ) → x < 2 ^ k → n ≤ k → placeOfNo (ticks (bit x) n) ≡ min (trailingZeros k ((2 ^ k - 1) - x)) n
 clear-bit k x zero h l = omega arith
 clear-bit zero x (suc n) h l = absurd (omega arith)
 clear-bit (suc k) x (suc n) h l =
-    let rest = clear-bit k (x / 2) n (half-lt k x h) (omega arith) in
+    let rest = clear-bit k (x / 2) n (half k x h) (omega arith) in
     ⊎-elim (λ (e : x % 2 < 1). last-no k x n h rest (omega arith)) (λ (e : 1 ≤ x % 2). last-yes k x n h rest (omega arith)) (lt-or-le (x % 2) 1)
 
 -- ---- word w of the words, of which the count has `left` verdicts left

@@ -1,6 +1,6 @@
 -- The states seen beyond the delay. Assumes nothing.
 use mathlib.Core.Path.{ap, _∙_}
-use Prim.Native.Nat.{ℕ, _-_}
+use Prim.Native.Nat.{_-_}
 use borrow.Author.Needs.{needs}
 use Rattle.table.specs.declared.RuleDelay.{RuleDelay}
 use Rattle.noted.proofs.given_by.Statement.{statement}
