@@ -2,8 +2,8 @@
 use Prim.Native.Nat.{ℕ, _+_, _-_, _≤_, _<_, min}
 use native.Mathlib.Omega.{arith}
 use mathlib.Core.Path.{_≡_, refl, ap, _∙_}
-use mathlib.Core.Bool.{Bool, true, false, not}
-use mathlib.Core.List.{List, [], _∷_}
+use mathlib.Core.Bool.{Bool, true, false}
+use mathlib.Core.List.{List, []}
 use mathlib.Core.Logic.{⊎-elim}
 use borrow.Author.Tests.{lt-ltb, eqb-true, eqb-false}
 use lib.Dec.{ltb, eqb}
@@ -16,14 +16,13 @@ use Rattle.mltl.specs.Mltl.{delay}
 use Rattle.table.specs.Nodes.{waitOf}
 use Rattle.table.specs.Sound.{ruleDelayBy}
 use Rattle.session.specs.declared.Session.{Session}
-use Rattle.session.specs.declared.Opening.{Opening}
 use Rattle.session.specs.Session.{Effect, formulaOf, delayOf, unfitBy, unfit, feedCount, feeding, closingBy}
 use Rattle.session.proofs.Effects.{feed-accepted, feed-refused, close-accepted, close-refused}
 use Rattle.session.proofs.Answers.{delay-is, feed-fits, close-fits}
 use Rattle.registers.specs.declared.Kind.{Kind}
 use Rattle.registers.specs.declared.Outcome.{Outcome}
 use Rattle.registers.specs.Registers.{afterCall}
-use Rattle.noted.specs.Noted.{placeOfNo, outcomeOf, verdictsIn, given}
+use Rattle.noted.specs.Noted.{placeOfNo, outcomeOf, given}
 use Rattle.noted.specs.Code.Steps.{Countable}
 use Rattle.noted.proofs.Places.{some-no, all-yes}
 
@@ -78,13 +77,7 @@ module _ (old : Bool) (s : Session) (h x o : List ℕ) where
       counts : (seen d : ℕ) {n : ℕ} → n ≡ min seen d → seen ≤ maxSeen → (seen - d) + n ≤ maxSeen
       counts seen d e k = omega arith
 
--- ---- a call, the outcome made of it, and the registers that it is noted in
-pub opening-noted : (kind : Kind) (b : List ℕ) {b′ : List ℕ} {o : Outcome} {w z : Opening}
-    → w ≡ z → o ≡ outcomeOf kind (w .number) [] 0 → b′ ≡ afterCall o b → (w ≡ z) × (b′ ≡ afterCall (outcomeOf kind (z .number) [] 0) b)
-opening-noted kind b made told noted = (made, noted ∙ ap (λ (y : Outcome). afterCall y b) (told ∙ ap (λ (y : Opening). outcomeOf kind (y .number) [] 0) made))
-
-pub effect-noted : (kind : Kind) (g : ℕ) (b : List ℕ) {b′ : List ℕ} {o : Outcome} {y z : Effect}
-    → y ≡ z → o ≡ outcomeOf kind (y .answer .number) (verdictsIn y) g → b′ ≡ afterCall o b
-    → (y ≡ z) × (b′ ≡ afterCall (outcomeOf kind (z .answer .number) (verdictsIn z) g) b)
-effect-noted kind g b made told noted =
-    (made, noted ∙ ap (λ (o : Outcome). afterCall o b) (told ∙ ap (λ (e : Effect). outcomeOf kind (e .answer .number) (verdictsIn e) g) made))
+-- ---- a call's answer, or its effect, the outcome made of it, and the registers that it is noted in
+pub noted-as : {A : Type 0} (outcome : A → Outcome) (b : List ℕ) {b′ : List ℕ} {o : Outcome} {y z : A}
+    → y ≡ z → o ≡ outcome y → b′ ≡ afterCall o b → (y ≡ z) × (b′ ≡ afterCall (outcome z) b)
+noted-as outcome b made told noted = (made, noted ∙ ap (λ (o : Outcome). afterCall o b) (told ∙ ap outcome made))

@@ -18,12 +18,12 @@ use Rattle.lists.proofs.Columns.{bitAt-at, bitAt-past}
 use Rattle.noted.specs.Noted.{placeOfNo}
 
 -- ---- verdicts after others
-pub place-within : (vs us : List Bool) → placeOfNo vs < length vs → placeOfNo (vs ++ us) ≡ placeOfNo vs
+place-within : (vs us : List Bool) → placeOfNo vs < length vs → placeOfNo (vs ++ us) ≡ placeOfNo vs
 place-within [] us h = absurd (omega arith)
 place-within (true ∷ vs) us h = ap suc (place-within vs us (omega arith))
 place-within (false ∷ vs) us h = refl
 
-pub place-past : (vs us : List Bool) → placeOfNo vs ≡ length vs → placeOfNo (vs ++ us) ≡ length vs + placeOfNo us
+place-past : (vs us : List Bool) → placeOfNo vs ≡ length vs → placeOfNo (vs ++ us) ≡ length vs + placeOfNo us
 place-past [] us h = omega arith
 place-past (true ∷ vs) us h = let e = place-past vs us (omega arith) in omega arith
 place-past (false ∷ vs) us h = absurd (omega arith)
@@ -42,7 +42,7 @@ module _ (k x n : ℕ) (h : x < 2 ^ suc k) (rest : placeOfNo (ticks (bit (x / 2)
   unfolding trailingZeros
   last-no e = rw (bit-zero x, e, not-last k x h, e) (omega arith)
 
-pub clear-bit : (k x n : ℕ) → x < 2 ^ k → n ≤ k → placeOfNo (ticks (bit x) n) ≡ min (trailingZeros k ((2 ^ k - 1) - x)) n
+clear-bit : (k x n : ℕ) → x < 2 ^ k → n ≤ k → placeOfNo (ticks (bit x) n) ≡ min (trailingZeros k ((2 ^ k - 1) - x)) n
 clear-bit k x zero h l = omega arith
 clear-bit zero x (suc n) h l = absurd (omega arith)
 clear-bit (suc k) x (suc n) h l =

@@ -1,4 +1,4 @@
--- The bits of a byte as the code takes them, a flag as a byte, and a place that is not refused. Assumes nothing.
+-- The bits of a byte as the code takes them, and a flag as a byte. Assumes nothing.
 use Prim.Native.Nat.{ℕ, _/_, _%_, _<_}
 use native.Mathlib.Omega.{arith}
 use native.Mathlib.Nat.{div-one}

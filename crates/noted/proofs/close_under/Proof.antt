@@ -3,10 +3,9 @@ use borrow.Author.Needs.{needs}
 use mathlib.Core.Path.{sym, ap, subst}
 use Rattle.table.specs.Nodes.{waitOf}
 use Rattle.session.specs.Session.{Effect}
-use Rattle.registers.specs.declared.Kind.the-variants.{Close}
-use Rattle.noted.specs.Noted.{given}
+use Rattle.noted.specs.Noted.{closeOutcome}
 use Rattle.noted.specs.Code.Steps.{Countable}
-use Rattle.noted.proofs.Outcomes.{close-countable, effect-noted}
+use Rattle.noted.proofs.Outcomes.{close-countable, noted-as}
 use Rattle.noted.proofs.close_under.Statement.{statement}
 use Rattle.noted.proofs.close_under.Tie as tie
 
@@ -25,7 +24,7 @@ returns : tie.Need-returns
 returns c =
     let f = c .before .before .before .before .before .before .before .before in
     let a = start f .args in
-    effect-noted Close (given (waitOf (a .old)) (a .s)) (a .registers .now) (f .close-under .ensures) (c .before .before .outcome-of .ensures) (c .note .ensures)
+    noted-as (closeOutcome (waitOf (a .old)) (a .s)) (a .registers .now) (f .close-under .ensures) (c .before .before .outcome-of .ensures) (c .note .ensures)
 
 pub close-under-spec : {M : Type 1} → statement M
 close-under-spec = tie.close (tie.spec (search needs) outcome-of-requires (search needs) (search needs) (search needs) returns)

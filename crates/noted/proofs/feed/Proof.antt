@@ -4,10 +4,9 @@ use mathlib.Core.Path.{sym, ap, subst}
 use mathlib.Core.Bool.{false}
 use Rattle.mltl.specs.Mltl.{delay}
 use Rattle.session.specs.Session.{Effect}
-use Rattle.registers.specs.declared.Kind.the-variants.{Feed}
-use Rattle.noted.specs.Noted.{given}
+use Rattle.noted.specs.Noted.{feedOutcome}
 use Rattle.noted.specs.Code.Steps.{Countable}
-use Rattle.noted.proofs.Outcomes.{feed-countable, effect-noted}
+use Rattle.noted.proofs.Outcomes.{feed-countable, noted-as}
 use Rattle.noted.proofs.feed.Statement.{statement}
 use Rattle.noted.proofs.feed.Tie as tie
 
@@ -26,7 +25,7 @@ returns : tie.Need-returns
 returns c =
     let f = c .before .before .before .before .before .before .before .before .before .before in
     let a = start f .args in
-    effect-noted Feed (given delay (a .s)) (a .registers .now) (f .feed .ensures) (c .before .before .outcome-of .ensures) (c .note .ensures)
+    noted-as (feedOutcome delay (a .s)) (a .registers .now) (f .feed .ensures) (c .before .before .outcome-of .ensures) (c .note .ensures)
 
 pub feed-spec : {M : Type 1} → statement M
 feed-spec = tie.close (tie.spec (search needs) outcome-of-requires (search needs) (search needs) (search needs) (search needs) returns)

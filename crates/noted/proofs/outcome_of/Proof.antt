@@ -10,8 +10,8 @@ use Rattle.noted.proofs.Outcomes.{given-is, with-no, without-no}
 use Rattle.noted.proofs.outcome_of.Statement.{statement}
 use Rattle.noted.proofs.outcome_of.Tie as tie
 
-add-t11 : tie.Need-add-t11
-add-t11 c =
+adds : tie.Need-add-t11
+adds c =
     let t = c .before in
     let s = t .before .before .before in
     let l : t .before .first-no .result < s .args .count = t .if1 .taken in
@@ -34,4 +34,4 @@ returns-2 c =
     without-no (a .kind) (a .number) (bitAt (a .words .now)) (a .count) (given (waitOf (a .old)) (a .s)) (c .before .first-no .ensures) (c .if1 .left)
 
 pub outcome-of-spec : {M : Type 1} → statement M
-outcome-of-spec = tie.close (tie.spec (search needs) (search needs) add-t11 returns returns-2)
+outcome-of-spec = tie.close (tie.spec (search needs) (search needs) adds returns returns-2)
