@@ -5,9 +5,10 @@
 
 #include "juntreak.h"
 
+/* The name 800 takes two bytes of its record: 32 in byte 1, and 3, counted 256 times, in byte 9. */
 static const char text[] =
     "7: F[1,3] s0\n"
-    "8: !s1 | G[0,600] (s0 & s2)\n";
+    "800: !s1 | G[0,600] (s0 & s2)\n";
 
 static uint8_t table[JUNTREAK_TABLE_BYTES];
 static uint8_t session[JUNTREAK_SESSION_BYTES];

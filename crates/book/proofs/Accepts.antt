@@ -18,7 +18,7 @@ use Rattle.book.specs.declared.Walk.{Walk}
 use Rattle.book.specs.declared.Reading.{Reading}
 use Rattle.book.specs.Entries.{entryOf, badLength, badHead}
 use Rattle.book.specs.Code.Steps.{entered, added, begun}
-use Rattle.book.specs.Reading.{refused, accepted, unless, isRuleAt, nodesIn, rulesIn, nodeOf, nodes, rules, tableOf, fault, headFault, finished, along, reading}
+use Rattle.book.specs.Reading.{refused, accepted, unless, isRuleAt, nodesIn, rulesIn, nodeOf, nodes, rules, tableOf, fault, faultBy, headFault, finished, along, alongBy, reading, readingBy}
 use Rattle.book.specs.Keeps.{Size, Head, Linked, KeptBy, AlongBy, over, on, KeepsBy, Kept, Along, Keeps, StaysKept}
 use Rattle.book.proofs.Tests.{Sized, head-clear}
 use Rattle.book.proofs.Among.{collect-length}
@@ -38,7 +38,7 @@ finished-some s chain = go (eqb (length (rules s chain)) 0) refl
     go false e h = let z = eqb-false (length (rules s chain)) 0 e in omega arith
 
 -- what is accepted has no fault
-none : (n r : ℕ) (x : Reading) → unless n r x .number ≡ 0 → n ≡ 0
+pub none : (n r : ℕ) (x : Reading) → unless n r x .number ≡ 0 → n ≡ 0
 none n r x = go (eqb n 0) refl
   where
     go : (b : Bool) → eqb n 0 ≡ b → pick b x (refused n r) .number ≡ 0 → n ≡ 0
@@ -56,7 +56,7 @@ module _ (s : List ℕ) where
   stop before r z h = record { chain = []; way = rw z over; some = rw append-nil (finished-some s before h) }
 
   found : (f : ℕ) (before : List ℕ) (w : Walk) (r : ℕ) → At s f before w r → along s f before r .number ≡ 0 → Found before r
-  unfolding along fault
+  unfolding alongBy faultBy
   found zero before w r a h = stop before r (at-end (eqb r 0) refl) h
     where
       at-end : (b : Bool) → eqb r 0 ≡ b → r ≡ 0
@@ -81,7 +81,7 @@ module _ (s : List ℕ) where
   -- ---- what keeps the rules is accepted
   taken : {before : List ℕ} {r : ℕ} {chain : List ℕ} {w : Walk} (f : ℕ) → Along s before r chain → At s f before w r → 1 ≤ length (rules s (before ++ chain))
       → along s f before r ≡ accepted (tableOf s (before ++ chain))
-  unfolding along fault
+  unfolding alongBy faultBy
   taken {before} zero over a h = rw append-nil (finished-is s before (rw append-nil at h))
   taken {before} (suc f) over a h = rw append-nil (finished-is s before (rw append-nil at h))
   taken zero (on z k l) a h = absurd (omega (arith, fuelled a z))
@@ -98,7 +98,7 @@ of-size n z =
     ap not
     (eq-eqb (n % 12) 0 (omega (arith, z .bytes)) also le-leb 12 n (omega (arith, z .bytes, z .some)) also le-leb n 3060 (omega (arith, z .bytes, z .few)))
 
-head-of : (e : Entry) → badHead e ≡ false → Head e
+pub head-of : (e : Entry) → badHead e ≡ false → Head e
 head-of e h = record {
   kind = eqb-true (e .kind) 0 (search (true-left, true-right, not-false) depth 12);
   arg = eqb-true (e .arg) 0 (search (true-left, true-right, not-false) depth 12);
@@ -106,14 +106,14 @@ head-of e h = record {
   hi = eqb-true (e .hi) 0 (search (true-left, true-right, not-false) depth 12);
   left = eqb-true (e .left) 0 (search (true-left, true-right, not-false) depth 12);
   right = eqb-true (e .right) 0 (search (true-left, true-right, not-false) depth 12);
+  upper = eqb-true (e .upper) 0 (search (true-left, true-right, not-false) depth 12);
   tail0 = eqb-true (e .tail0) 0 (search (true-left, true-right, not-false) depth 12);
   tail1 = eqb-true (e .tail1) 0 (search (true-left, true-right, not-false) depth 12);
-  tail2 = eqb-true (e .tail2) 0 (search (true-left, true-right, not-false) depth 12);
 }
 
 of-head : (e : Entry) → Head e → badHead e ≡ false
 of-head e h =
-    rw (h .kind, h .arg, h .lo, h .hi, h .left, h .right, h .tail0, h .tail1, h .tail2)
+    rw (h .kind, h .arg, h .lo, h .hi, h .left, h .right, h .upper, h .tail0, h .tail1)
 
 module _ (s : List ℕ) where
   headed : Size (length s) → Head (entryOf s 0) → Linked s (0 ∷ []) (entryOf s 0 .next) → headFault s ≡ 0
@@ -128,7 +128,7 @@ module _ (s : List ℕ) where
 
   -- THE LAW: a book that is accepted keeps the rules
   pub accepted-keeps : reading s .number ≡ 0 → Keeps s
-  unfolding reading
+  unfolding readingBy
   accepted-keeps h =
       let n = none (headFault s) 0 (along s 255 (0 ∷ []) (entryOf s 0 .next)) h in
       let k = head-clear s n in
@@ -145,7 +145,7 @@ module _ (s : List ℕ) where
 
   -- THE LAW: a book that keeps the rules is accepted, and its table is that of its chain
   pub keeps-accepted : (k : Keeps s) → reading s ≡ accepted (tableOf s (0 ∷ k .chain))
-  unfolding reading
+  unfolding readingBy
   keeps-accepted k =
       let n = headed (k .size) (k .head) (k .linked) in
       rw n (taken s 255 (k .along) (starts s (head-clear s n)) (omega (arith, head-no-rule (k .head) (k .chain), k .ruled)))

@@ -3,11 +3,11 @@ use mathlib.Core.Path.{_≡_, refl, sym, ap, _∙_}
 use mathlib.Core.Bool.{Bool, true, false, _&&_, _||_, true≢false, false≢true, or-assoc, or-false, and-false, or-true}
 use mathlib.Core.List.{List, [], _∷_, _++_, map, append-assoc, append-nil, List·Memᴰ, List·Memᴰ·head, List·Memᴰ·tail, List·Memᴰ·not-nil, List·Memᴰ·cases-cons}
 use mathlib.Core.Logic.{_⊎_, ⊎-elim, _↔_}
-use Prim.Native.Nat.{ℕ, suc, _<_}
+use Prim.Native.Nat.{ℕ, zero, suc, _<_}
 use native.Mathlib.Omega.{arith}
 use borrow.Author.Tests.{eqb-true, eqb-false, eq-eqb, ne-eqb}
 use lib.Dec.{eqb}
-use lib.ListN.{length}
+use lib.ListN.{length, getD}
 use Rattle.lists.specs.Choice.{pick}
 use Rattle.lists.specs.Sequence.{among}
 use Rattle.lists.proofs.Tests.{or-split, or-left, or-right, true-or-false}
@@ -105,6 +105,20 @@ module _ (p : ℕ → Bool) where
             → length (pick t (f b y ∷ collect p f (b ++ (y ∷ [])) ys) (collect p f (b ++ (y ∷ [])) ys)) ≡ length (pick t (y ∷ filter p ys) (filter p ys))
         go true i = ap suc i
         go false i = i
+
+    -- what f makes of the records that p picks has a property, so each that is collected has it
+    pub collect-each : (Q : A → Type 0) (d : A) (b xs : List ℕ) → ((c : List ℕ) (x : ℕ) → List·Memᴰ x xs → p x ≡ true → Q (f c x))
+        → (i : ℕ) → i < length (collect p f b xs) → Q (getD (collect p f b xs) i d)
+    collect-each Q d b [] h i l = absurd (omega arith)
+    collect-each Q d b (y ∷ ys) h i l =
+        go (p y) refl i l (λ j m. collect-each Q d (b ++ (y ∷ [])) ys (λ c x n. h c x (List·Memᴰ·tail n)) j m)
+      where
+        go : (t : Bool) → p y ≡ t → (i : ℕ) → i < length (pick t (f b y ∷ collect p f (b ++ (y ∷ [])) ys) (collect p f (b ++ (y ∷ [])) ys))
+            → ((j : ℕ) → j < length (collect p f (b ++ (y ∷ [])) ys) → Q (getD (collect p f (b ++ (y ∷ [])) ys) j d))
+            → Q (getD (pick t (f b y ∷ collect p f (b ++ (y ∷ [])) ys) (collect p f (b ++ (y ∷ [])) ys)) i d)
+        go true e zero l r = h b y (List·Memᴰ·head refl) e
+        go true e (suc i) l r = r i (omega arith)
+        go false e i l r = r i l
 
 -- the index of one that is there already, and of one that comes last
 pub index-old : (xs ys : List ℕ) (k : ℕ) → among k xs ≡ true → index (xs ++ ys) k ≡ index xs k

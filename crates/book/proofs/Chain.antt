@@ -14,18 +14,26 @@ use Rattle.table.specs.Nodes.{noNode, noRule}
 use Rattle.table.specs.declared.Rule.{Rule}
 use Rattle.book.specs.declared.Entry.{Entry}
 use Rattle.book.specs.declared.Reading.{Reading}
-use Rattle.book.specs.Entries.{entryOf, isNode, isRule, nameOf, badLength, badHead}
-use Rattle.book.specs.Reading.{filter, isNodeAt, isRuleAt, nodesIn, rulesIn, nodeOf, ruleOf, collect, nodes, rules, linkFault, rows, fault, headFault, refused, accepted, unless, finished, along, reading}
-use Rattle.book.specs.Chain.{OnChain, head, next, Read, start, linked, then, SameRecord, SameChain, SameRead}
+use Rattle.book.specs.Entries.{Naming, entryOf, isNode, isRule, nameOf, badLength, badHead}
+use Rattle.book.specs.Reading.{filter, isNodeAt, isRuleAt, nodesIn, rulesIn, nodeOf, ruleOf, collect, nodes, rules, linkFault, rows, fault, faultBy, headFault, refused, accepted, unless, finished, finishedBy, alongBy, reading, readingBy}
+use Rattle.book.specs.Chain.{OnChain, head, next, ReadBy, start, linked, then, Read, SameRecord, SameChain, SameRead}
 use Rattle.book.proofs.Among.{collect-map}
 use Rattle.book.proofs.Stands.{nodeIn, ruleIn}
 
 -- ---- lists whose elements all have a property
 module _ (P : ℕ → Type 0) where
-  All : List ℕ → Type 0
+  pub All : List ℕ → Type 0
   All xs = (q : ℕ) → List·Memᴰ q xs → P q
 
-  all-snoc : (xs : List ℕ) (x : ℕ) → All xs → P x → All (xs ++ (x ∷ []))
+  pub all-none : All []
+  unfolding All
+  all-none q m = absurd (List·Memᴰ·not-nil m)
+
+  pub all-at : {xs : List ℕ} → All xs → (q : ℕ) → List·Memᴰ q xs → P q
+  unfolding All
+  all-at h = h
+
+  pub all-snoc : (xs : List ℕ) (x : ℕ) → All xs → P x → All (xs ++ (x ∷ []))
   unfolding All
   all-snoc xs x h p q m = ⊎-elim (h q) (λ i. subst P (sym (List·Memᴰ·eq-of-singleton i)) p) (List·Memᴰ·append-cases xs m)
 
@@ -40,7 +48,7 @@ module _ (P : ℕ → Type 0) where
         rw (t, i)
 
     module _ {A : Type 0} (f f' : List ℕ → ℕ → A) (g : (b : List ℕ) → All b → (x : ℕ) → P x → f b x ≡ f' b x) where
-      collect-same : (b xs : List ℕ) → All b → All xs → collect p f b xs ≡ collect p' f' b xs
+      pub collect-same : (b xs : List ℕ) → All b → All xs → collect p f b xs ≡ collect p' f' b xs
       unfolding All
       collect-same b [] hb h = refl
       collect-same b (x ∷ xs) hb h =
@@ -78,16 +86,12 @@ module _ (s u : List ℕ) where
     unfolding Same
     rule-in x o = ap₂ ruleOf nodes-in o
 
-  none : All Same []
-  unfolding All
-  none q m = absurd (List·Memᴰ·not-nil m)
-
   module _ (l : length s ≡ length u) (b : List ℕ) (h : All Same b) where
     nodes-are : nodes s b ≡ nodes u b
-    nodes-are = collect-same Same (isNodeAt s) (isNodeAt u) node-test (nodeIn s) (nodeIn u) node-in [] b none h
+    nodes-are = collect-same Same (isNodeAt s) (isNodeAt u) node-test (nodeIn s) (nodeIn u) node-in [] b (all-none Same) h
 
     rules-are : rules s b ≡ rules u b
-    rules-are = collect-same Same (isRuleAt s) (isRuleAt u) rule-test (ruleIn s) (ruleIn u) rule-in [] b none h
+    rules-are = collect-same Same (isRuleAt s) (isRuleAt u) rule-test (ruleIn s) (ruleIn u) rule-in [] b (all-none Same) h
 
     names : (t : List ℕ) → map (λ q. nameOf (entryOf t q)) (rulesIn t b) ≡ map (λ (x : Rule). x .name) (rules t b)
     names t = sym (collect-map (isRuleAt t) (ruleIn t) (λ (x : Rule). x .name) (λ q. nameOf (entryOf t q)) (λ a x. refl) [] b)
@@ -96,7 +100,7 @@ module _ (s u : List ℕ) where
     names-are = names s ∙ ap (map (λ (x : Rule). x .name)) rules-are ∙ sym (names u)
 
     fault-same : (r : ℕ) → Same r → fault s b r ≡ fault u b r
-    unfolding fault Same
+    unfolding faultBy Same
     fault-same r o = ap (λ (e : Entry). first (rows s b r e)) o ∙ rw (l, names-are, nodes-are, nodes-in b h, rules-in b h)
 
     finished-same : finished s b ≡ finished u b
@@ -139,6 +143,33 @@ same-entry s u r c =
     )
 
 -- ---- along the chain
+-- two readings that are the same at every record that is read
+pub record Alike (names other : Naming) (s u : List ℕ) : Type 0 where
+  pub head : headFault s ≡ headFault u
+  pub onward : (before : List ℕ) (r : ℕ) → ReadBy names s before r → entryOf s r .next ≡ entryOf u r .next
+  pub tried : (before : List ℕ) (r : ℕ) → ReadBy names s before r → ¬ (r ≡ 0) → faultBy names s before r ≡ faultBy other u before r
+  pub end : (before : List ℕ) (r : ℕ) → ReadBy names s before r → finishedBy names s before ≡ finishedBy other u before
+
+module _ {names other : Naming} {s u : List ℕ} (a : Alike names other s u) where
+  along-alike : (f : ℕ) (b : List ℕ) (r : ℕ) → ReadBy names s b r → alongBy names s f b r ≡ alongBy other u f b r
+  unfolding alongBy
+  along-alike zero b r o = a .end b r o
+  along-alike (suc f) b r o =
+      pick-same (eqb r 0) (a .end b r o) λ z.
+      let ne = eqb-false r 0 z in
+      let rest : faultBy names s b r ≡ 0 → alongBy names s f (b ++ (r ∷ [])) (entryOf s r .next) ≡ alongBy other u f (b ++ (r ∷ [])) (entryOf u r .next) = λ n.
+      along-alike f (b ++ (r ∷ [])) (entryOf s r .next) (then o ne n) ∙ ap (λ (x : ℕ). alongBy other u f (b ++ (r ∷ [])) x) (a .onward b r o) in
+      unless-same (faultBy names s b r) r rest ∙ rw (a .tried b r o ne)
+
+  -- THE LAW: they come to the same
+  pub reading-alike : readingBy names s ≡ readingBy other u
+  unfolding readingBy
+  reading-alike =
+      let rest : headFault s ≡ 0 → alongBy names s 255 (0 ∷ []) (entryOf s 0 .next) ≡ alongBy other u 255 (0 ∷ []) (entryOf u 0 .next) = λ n.
+      along-alike 255 (0 ∷ []) (entryOf s 0 .next) (linked n) ∙ ap (λ (x : ℕ). alongBy other u 255 (0 ∷ []) x) (a .onward [] 0 start) in
+      unless-same (headFault s) 0 rest ∙ rw (a .head)
+
+-- ---- two books with the same records where the first is read
 module _ (s u : List ℕ) (c : SameRead s u) where
   entry-same : (before : List ℕ) (r : ℕ) → Read s before r → entryOf s r ≡ entryOf u r
   entry-same before r o = same-entry s u r (c .records before r o)
@@ -147,16 +178,10 @@ module _ (s u : List ℕ) (c : SameRead s u) where
   unfolding Same
   same = entry-same
 
-  along-same : (f : ℕ) (b : List ℕ) (r : ℕ) → All (Same s u) b → Read s b r → along s f b r ≡ along u f b r
-  unfolding along
-  along-same zero b r h o = finished-same s u (c .size) b h
-  along-same (suc f) b r h o =
-      pick-same (eqb r 0) (finished-same s u (c .size) b h) λ z.
-      let g : fault s b r ≡ fault u b r = fault-same s u (c .size) b h r (same b r o) in
-      let rest : fault s b r ≡ 0 → along s f (b ++ (r ∷ [])) (entryOf s r .next) ≡ along u f (b ++ (r ∷ [])) (entryOf u r .next) = λ n.
-      along-same f (b ++ (r ∷ [])) (entryOf s r .next) (all-snoc (Same s u) b r h (same b r o)) (then o (eqb-false r 0 z) n)
-      ∙ ap (λ (x : Entry). along u f (b ++ (r ∷ [])) (x .next)) (entry-same b r o) in
-      unless-same (fault s b r) r rest ∙ rw g
+  before-same : {before : List ℕ} {r : ℕ} → Read s before r → All (Same s u) before
+  before-same start = all-none (Same s u)
+  before-same (linked n) = all-snoc (Same s u) [] 0 (all-none (Same s u)) (same [] 0 start)
+  before-same (then {before} {r} o z n) = all-snoc (Same s u) before r (before-same o) (same before r o)
 
   head-same : headFault s ≡ headFault u
   unfolding headFault
@@ -166,15 +191,15 @@ module _ (s u : List ℕ) (c : SameRead s u) where
 
   -- THE LAW: where a book is not read, its bytes do not matter
   pub read-only : reading s ≡ reading u
-  unfolding reading
-  read-only =
-      let rest : headFault s ≡ 0 → along s 255 (0 ∷ []) (entryOf s 0 .next) ≡ along u 255 (0 ∷ []) (entryOf u 0 .next) = λ n.
-      along-same 255 (0 ∷ []) (entryOf s 0 .next) (all-snoc (Same s u) [] 0 (none s u) (same [] 0 start)) (linked n)
-      ∙ ap (λ (x : Entry). along u 255 (0 ∷ []) (x .next)) (entry-same [] 0 start) in
-      unless-same (headFault s) 0 rest ∙ rw head-same
+  read-only = reading-alike (record {
+    head = head-same;
+    onward = λ before r o. ap (λ (e : Entry). e .next) (entry-same before r o);
+    tried = λ before r o z. fault-same s u (c .size) before (before-same o) r (same before r o);
+    end = λ before r o. finished-same s u (c .size) before (before-same o);
+  })
 
 -- what is read is on the chain
-read-on-chain : {s before : List ℕ} {r : ℕ} → Read s before r → OnChain s r
+pub read-on-chain : {names : Naming} {s before : List ℕ} {r : ℕ} → ReadBy names s before r → OnChain s r
 read-on-chain start = head
 read-on-chain (linked n) = next head
 read-on-chain (then o z n) = next (read-on-chain o)

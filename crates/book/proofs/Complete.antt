@@ -3,7 +3,7 @@ use mathlib.Core.Path.{_≡_, refl, sym, ap, subst, _∙_}
 use mathlib.Core.Bool.{Bool, true, false, true≢false, false≢true}
 use mathlib.Core.List.{List, [], _∷_, _++_, append-assoc, append-nil}
 use mathlib.Core.Logic.{_↔_, ⊎-elim}
-use Prim.Native.Nat.{ℕ, zero, suc, _+_, _-_, _*_, _≤_, _<_}
+use Prim.Native.Nat.{ℕ, zero, suc, _+_, _-_, _*_, _/_, _%_, _≤_, _<_}
 use native.Mathlib.Nat.{add-suc, add-zero, zero-add}
 use native.Mathlib.Numerals.{add-one}
 use native.Mathlib.Omega.{arith}
@@ -12,7 +12,7 @@ use lib.Dec.{ltb, leb, eqb}
 use lib.ListN.{length, getD, take, drop, length-take}
 use lib.Seq.{take-suc}
 use Rattle.lists.specs.Choice.{pick}
-use Rattle.lists.specs.Sequence.{among, ticks, padded}
+use Rattle.lists.specs.Sequence.{among, ticks, padded, pairOf}
 use Rattle.lists.proofs.Tests.{lt-or-le}
 use Rattle.lists.proofs.Sequences.{length-ticks, getD-ticks, padded-is}
 use Rattle.mltl.specs.Mltl.{Formula, delay}
@@ -35,8 +35,8 @@ use Rattle.book.proofs.Stands.{nodeIn, ruleIn}
 use Rattle.book.proofs.Kept.{node-iff, earlier-iff, rule-among}
 use Rattle.book.proofs.Accepts.{keeps-accepted, head-no-rule}
 use Rattle.book.proofs.Sound.{accepted-sound}
-use Rattle.book.proofs.Writes.{node-for, rule-for, next-for, operands-small, rule-small, length-book}
-use Rattle.book.proofs.Records.{entry-of, listed, listed-none, listed-more, length-listed, ups, ones, first-up, among-ups, among-records, operand-place, Which, which}
+use Rattle.book.proofs.Writes.{node-for, rule-for, next-for, operands-small, watched-small, length-book}
+use Rattle.book.proofs.Records.{two, entry-of, listed, listed-none, listed-more, length-listed, ups, ones, first-up, among-ups, among-records, operand-place, Which, which}
 
 module _ (t : Table) (z : Sound t) where
   n : ℕ
@@ -176,7 +176,7 @@ module _ (t : Table) (z : Sound t) where
     rule-is : ruleIn s (ups (suc (n + j))) (suc (n + j)) ≡ ruleAt t j
     rule-is =
         ap (ruleOf (nodesIn s (ups (suc (n + j))))) (ent-rule j h)
-        ∙ rw (l .nodes-in, operand-place true n (ruleAt t j .watched) (λ u. ruled j h .watched) (λ u. absurd (true≢false u)))
+        ∙ rw (two (ruleAt t j .name), l .nodes-in, operand-place true n (ruleAt t j .watched) (λ u. ruled j h .watched) (λ u. absurd (true≢false u)))
 
     lists-rule-more : Lists (suc (suc (n + j))) n (suc j)
     unfolding m
@@ -226,9 +226,9 @@ module _ (t : Table) (z : Sound t) where
           hi = rw u at (f .interval .unused);
           left = λ v. rw v;
           right = λ v. rw v;
+          upper = λ v. refl;
           tail0 = refl;
           tail1 = refl;
-          tail2 = refl;
         };
         signal = λ v. omega (arith, f .arg .limited (uses-arg (x .kind) ∙ rw v));
         name = λ v. absurd (omega (arith, f .node));
@@ -260,12 +260,12 @@ module _ (t : Table) (z : Sound t) where
           hi = λ u. refl;
           left = λ u. absurd (true≢false u);
           right = λ u. refl;
+          upper = λ u. absurd (u refl);
           tail0 = refl;
           tail1 = refl;
-          tail2 = refl;
         };
         signal = λ u. absurd (omega arith);
-        name = λ u. f .named;
+        name = λ u. omega (arith, f .named);
         ordered = omega arith;
         limited = omega arith;
         left = λ u. earlier-iff s (ups (suc (n + j))) _ .0 (rw (l .nodes-in) (among-records (x .watched) n ∙ lt-ltb (x .watched) n (f .watched)));
@@ -276,10 +276,13 @@ module _ (t : Table) (z : Sound t) where
         own = λ u q i k p. apart q (which ruleNumber j q (rw (l .rules-in) at (rule-among s (ups (suc (n + j))) q i k))) p;
       }
     where
-      apart : (q : ℕ) → Which ruleNumber j q → ¬ (nameOf (entryOf s q) ≡ ruleAt t j .name)
+      name-at : (i : ℕ) → i < m → nameOf (entryOf s (ruleNumber i)) ≡ ruleAt t i .name
+      name-at i l = ap nameOf (ent-rule i l) ∙ two (ruleAt t i .name)
+
+      apart : (q : ℕ) → Which ruleNumber j q → ¬ (nameOf (entryOf s q) ≡ pairOf (ruleAt t j .name % 256) (ruleAt t j .name / 256))
       apart q w p =
           other (w .at) j (w .small) h
-          (sym (ap nameOf (ent-rule (w .at) (omega (arith, w .small)))) ∙ ap (λ (x : ℕ). nameOf (entryOf s x)) (sym (w .is)) ∙ p)
+          (sym (name-at (w .at) (omega (arith, w .small))) ∙ ap (λ (x : ℕ). nameOf (entryOf s x)) (sym (w .is)) ∙ p ∙ two (ruleAt t j .name))
 
   -- ---- the chain: 1, 2, 3, ..
   node-kept : (k : ℕ) → k < n → Kept s (ups (suc k)) (suc k) (entryOf s (suc k))
@@ -347,7 +350,7 @@ module _ (t : Table) (z : Sound t) where
   keeps : Keeps s
   unfolding n m
   keeps =
-      let h : Head (entryOf s 0) = rw ent-head (record { kind = refl; arg = refl; lo = refl; hi = refl; left = refl; right = refl; tail0 = refl; tail1 = refl; tail2 = refl }) in
+      let h : Head (entryOf s 0) = rw ent-head (record { kind = refl; arg = refl; lo = refl; hi = refl; left = refl; right = refl; upper = refl; tail0 = refl; tail1 = refl }) in
       let b : length (take m (t .rules)) ≡ t .«rule_count» = simp length-take (omega (arith, z .few-rules, z .rule-places)) in
       let r : length (rules s (0 ∷ from 0 (many t))) ≡ t .«rule_count» = ap (λ (l : List ℕ). length (rules s l)) whole-chain ∙ rw (last .rules-are) b in
       record {
@@ -376,9 +379,9 @@ record Small (e : Entry) : Type 0 where
   left : e .left < 256
   right : e .right < 256
   next : e .next < 256
+  upper : e .upper < 256
   tail0 : e .tail0 < 256
   tail1 : e .tail1 < 256
-  tail2 : e .tail2 < 256
 
 infixr 5 _then_
 _then_ : {x : ℕ} {s : List ℕ} → x < 256 → Bytes s → Bytes (x ∷ s)
@@ -393,7 +396,7 @@ small-bytes [] h = record { byte = λ i l. omega arith }
 small-bytes (e ∷ es) h =
     let x = h 0 (omega arith) in
     x .kind then x .arg then omega arith then omega (arith, x .lo) then omega arith then omega (arith, x .hi)
-    then x .left then x .right then x .next then x .tail0 then x .tail1 then x .tail2 then small-bytes es (λ r l. h (suc r) (omega arith))
+    then x .left then x .right then x .next then x .upper then x .tail0 then x .tail1 then small-bytes es (λ r l. h (suc r) (omega arith))
 
 after-small : (t : Table) (k : ℕ) → many t ≤ 72 → linkAfter t k < 256
 after-small t k h = go (ltb k (many t)) refl
@@ -416,7 +419,7 @@ module _ (t : Table) (z : Sound t) where
 
       go : (a : Bool) → eqb r 0 ≡ a → (b : Bool) → leb r (t .«node_count») ≡ b
           → Small (pick a (headEntry (linkAfter t r)) (pick b (nodeEntry (nodeAt t (r - 1)) (linkAfter t r)) (ruleEntry (ruleAt t (r - 1 - t .«node_count»)) (linkAfter t r))))
-      go true e b f = record { kind = omega arith; arg = omega arith; lo = omega arith; hi = omega arith; left = omega arith; right = omega arith; next = to; tail0 = omega arith; tail1 = omega arith; tail2 = omega arith }
+      go true e b f = record { kind = omega arith; arg = omega arith; lo = omega arith; hi = omega arith; left = omega arith; right = omega arith; next = to; upper = omega arith; tail0 = omega arith; tail1 = omega arith }
       go false e true f =
           let q : r - 1 < t .«node_count» = omega (arith, eqb-false r 0 e, leb-true r (t .«node_count») f) in
           let y = z .node (r - 1) q in
@@ -431,24 +434,24 @@ module _ (t : Table) (z : Sound t) where
             left = number-small (usesIn (x .kind) .left) (x .left) (o .0);
             right = number-small (usesIn (x .kind) .right) (x .right) (o .1);
             next = to;
+            upper = omega arith;
             tail0 = omega arith;
             tail1 = omega arith;
-            tail2 = omega arith;
           }
       go false e false f =
           let q : r - 1 - t .«node_count» < t .«rule_count» = omega (arith, leb-false r (t .«node_count») f) in
-          let y = rule-small t z (r - 1 - t .«node_count») q in
+          let y = z .rule (r - 1 - t .«node_count») q in
           record {
             kind = omega arith;
-            arg = omega (arith, y .0);
+            arg = omega arith;
             lo = omega arith;
             hi = omega arith;
-            left = omega (arith, y .1);
+            left = omega (arith, watched-small t z (r - 1 - t .«node_count») q);
             right = omega arith;
             next = to;
+            upper = omega (arith, y .largest);
             tail0 = omega arith;
             tail1 = omega arith;
-            tail2 = omega arith;
           }
 
 -- THE LAWS: the book of a sound table is bytes, its chain is 1, 2, 3 up to the last record, and it reads as the table

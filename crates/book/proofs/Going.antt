@@ -18,7 +18,7 @@ use Rattle.book.specs.declared.Tried.{Tried}
 use Rattle.book.specs.declared.Reading.{Reading}
 use Rattle.book.specs.Entries.{entryOf, isNode, nameOf}
 use Rattle.book.specs.Code.Steps.{seenAt, entered, nodeAdded, ruleAdded, added, walkFault, stepped, begun, walkEnded}
-use Rattle.book.specs.Reading.{refused, rows, fault, headFault, finished, along, reading}
+use Rattle.book.specs.Reading.{refused, rows, fault, faultBy, headFault, finished, along, alongBy, reading, readingBy}
 use Rattle.book.specs.Keeps.{Linked}
 use Rattle.lists.proofs.Rows.{no-row}
 use Rattle.book.proofs.Tests.{Sized, HeadClear, head-clear, head-kind}
@@ -100,7 +100,7 @@ starts s k = record {
 
 pub further : {s : List ℕ} {f : ℕ} {before : List ℕ} {w : Walk} {r : ℕ} → At s (suc f) before w r → ¬ (r ≡ 0) → fault s before r ≡ 0
     → At s f (before ++ (r ∷ [])) (added (entered w r) r (entryOf s r)) (entryOf s r .next)
-unfolding fault
+unfolding faultBy
 further {s} {f} {before} {w} {r} a z n =
     record {
       stands = added-stands (a .stands) r (byte a z) (new a z) n;
@@ -111,7 +111,7 @@ further {s} {f} {before} {w} {r} a z n =
 
 -- in a book of bytes no name is too large
 pub name-small : (s : List ℕ) (r : ℕ) {e : Entry} → e ≡ entryOf s r → ((i : ℕ) → getD s i 0 < 256) → nameOf e ≤ maxName
-name-small s r i b = let h : nameOf (entryOf s r) ≤ maxName = omega (arith, b (12 * r + 1)) in subst (λ (e : Entry). nameOf e ≤ maxName) (sym i) h
+name-small s r i b = let h : nameOf (entryOf s r) ≤ maxName = omega (arith, b (12 * r + 1), b (12 * r + 9)) in subst (λ (e : Entry). nameOf e ≤ maxName) (sym i) h
 
 -- ---- the loop's invariant
 pub record Going (s : List ℕ) (w : Walk) (r : ℕ) : Type 0 where
@@ -121,18 +121,18 @@ pub record Going (s : List ℕ) (w : Walk) (r : ℕ) : Type 0 where
   pub same : along s fuel before r ≡ reading s
 
 pub begins : (s : List ℕ) {f : ℕ} {w : Walk} {e : Entry} → f ≡ headFault s → f ≡ 0 → w ≡ begun → e ≡ entryOf s 0 → Going s w (e .next)
-unfolding reading
+unfolding readingBy
 begins s p q i j =
     let h : headFault s ≡ 0 = sym p ∙ q in
     rw (i, j) (record { before = 0 ∷ []; fuel = 255; at = starts s (head-clear s h); same = rw h })
 
 pub head-stops : (s : List ℕ) {f : ℕ} {x : Reading} → f ≡ headFault s → ¬ (f ≡ 0) → x ≡ refused f 0 → x ≡ reading s
-unfolding reading
+unfolding readingBy
 head-stops s p q i = rw (i, p, ne-eqb (headFault s) 0 (λ z. q (p ∙ z)))
 
 module _ {s : List ℕ} {w : Walk} {r : ℕ} (g : Going s w r) where
   pub ends : {x : Reading} → r ≡ 0 → x ≡ walkEnded w → x ≡ reading s
-  unfolding along
+  unfolding alongBy
   ends z i = i ∙ ended-same (g .at .stands) ∙ go (g .fuel) ∙ g .same
     where
       go : (f : ℕ) → finished s (g .before) ≡ along s f (g .before) r
@@ -145,7 +145,7 @@ module _ {s : List ℕ} {w : Walk} {r : ℕ} (g : Going s w r) where
     found = ap (λ (y : Tried). y .number) k ∙ rw (i, j) (fault-is (g .at) z (subst (λ (y : Entry). nameOf y ≤ maxName) j b))
 
     pub stops : {y : Reading} → ¬ (x .number ≡ 0) → y ≡ refused (x .number) r → y ≡ reading s
-    unfolding along
+    unfolding alongBy
     stops q y = y ∙ go (g .fuel) (fuelled (g .at) z) ∙ g .same
       where
         go : (f : ℕ) → 0 < f → refused (x .number) r ≡ along s f (g .before) r
@@ -164,7 +164,7 @@ module _ {s : List ℕ} {w : Walk} {r : ℕ} (g : Going s w r) where
       less = rw next-state (omega (arith, one-less (g .at) z))
 
       pub turns : Going s (x .walk) (e .next)
-      unfolding along
+      unfolding alongBy
       turns = rw (next-state, j) (go (g .fuel) (g .at) (g .same))
         where
           go : (f : ℕ) → At s f (g .before) w r → along s f (g .before) r ≡ reading s → Going s (added (entered w r) r (entryOf s r)) (entryOf s r .next)

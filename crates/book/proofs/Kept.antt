@@ -35,9 +35,9 @@ formed-is e t =
       hi = λ u. eqb-true (e .hi) 0 (true-right (eqb (e .lo) 0) _ (or-other (usesIn (e .kind) .interval) _ interval u));
       left = λ u. eqb-true (e .left) 0 (or-other (usesIn (e .kind) .left) _ (search (true-left, true-right) depth 12) u);
       right = λ u. eqb-true (e .right) 0 (or-other (usesIn (e .kind) .right) _ (search (true-left, true-right) depth 12) u);
+      upper = λ u. eqb-true (e .upper) 0 (or-other (isRule (e .kind)) _ (search (true-left, true-right) depth 12) (ne-eqb (e .kind) 11 u));
       tail0 = eqb-true (e .tail0) 0 (search (true-left, true-right) depth 12);
       tail1 = eqb-true (e .tail1) 0 (search (true-left, true-right) depth 12);
-      tail2 = eqb-true (e .tail2) 0 (search (true-left, true-right) depth 12);
     }
 
 is-formed : (e : Entry) → Formed e → formed e ≡ true
@@ -48,9 +48,9 @@ is-formed e f =
     also or-else (usesIn (e .kind) .interval) (λ u. eq-eqb (e .lo) 0 (f .lo u) also eq-eqb (e .hi) 0 (f .hi u))
     also or-else (usesIn (e .kind) .left) (λ u. eq-eqb (e .left) 0 (f .left u))
     also or-else (usesIn (e .kind) .right) (λ u. eq-eqb (e .right) 0 (f .right u))
+    also or-else (isRule (e .kind)) (λ u. eq-eqb (e .upper) 0 (f .upper (eqb-false (e .kind) 11 u)))
     also eq-eqb (e .tail0) 0 (f .tail0)
     also eq-eqb (e .tail1) 0 (f .tail1)
-    also eq-eqb (e .tail2) 0 (f .tail2)
 
 pub node-iff : (k : ℕ) → (isNode k ≡ true) ↔ NodeKind k
 node-iff k = (

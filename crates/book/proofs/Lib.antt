@@ -24,5 +24,7 @@ pub mod Complete
 pub mod Back
 -- only what is read of a book matters
 mod Chain
+-- the reader before A11, when a name had one byte
+mod OneByte
 -- books and what reading them yields
 mod Examples

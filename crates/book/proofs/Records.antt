@@ -10,7 +10,7 @@ use borrow.Author.Tests.{eqb-true, lt-ltb, le-ltb, ne-eqb}
 use lib.Dec.{ltb, eqb}
 use lib.ListN.{length, getD}
 use Rattle.lists.specs.Choice.{pick}
-use Rattle.lists.specs.Sequence.{ticks, among}
+use Rattle.lists.specs.Sequence.{ticks, among, pairOf}
 use Rattle.lists.proofs.Tests.{lt-or-le, or-split, same-test, or-iff, ltb-iff, eqb-iff}
 use Rattle.lists.proofs.Sequences.{length-ticks, ticks-snoc}
 use Rattle.book.specs.declared.Entry.{Entry}
@@ -20,7 +20,7 @@ use Rattle.book.specs.Writing.{bytesOf, bytes, headEntry}
 use Rattle.book.proofs.Among.{eqb-suc, among-snoc, index-old, index-new}
 
 -- ---- a number as two bytes
-two : (n : ℕ) → n % 256 + 256 * (n / 256) ≡ n
+pub two : (n : ℕ) → pairOf (n % 256) (n / 256) ≡ n
 two n = omega arith
 
 -- ---- the record r of a book of records

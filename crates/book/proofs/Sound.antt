@@ -22,7 +22,7 @@ use Rattle.builder.proofs.Sound.{Good, good-none, good-node, good-rule, good-so
 use Rattle.book.specs.declared.Entry.{Entry}
 use Rattle.book.specs.declared.Reading.{Reading}
 use Rattle.book.specs.Entries.{Bytes, entryOf, nameOf}
-use Rattle.book.specs.Reading.{place, isNodeAt, isRuleAt, nodesIn, nodeOf, ruleOf, nodes, rules, tableOf, rows, fault, headFault, refused, accepted, unless, finished, along, reading}
+use Rattle.book.specs.Reading.{place, isNodeAt, isRuleAt, nodesIn, nodeOf, ruleOf, nodes, rules, tableOf, rows, fault, headFault, refused, accepted, unless, finished, along, alongBy, reading, readingBy}
 use Rattle.book.specs.Keeps.{Head, Kept, EarlierNode, Along, over, on}
 use Rattle.book.proofs.Tests.{other-kind, node-no-rule, node-uses, rule-uses}
 use Rattle.book.proofs.Among.{among-filter, collect-in, collect-out, collect-map, collect-length, index-lt}
@@ -35,7 +35,7 @@ use Rattle.book.proofs.Accepts.{accepted-keeps, keeps-accepted, head-no
 place-in : (xs : List ℕ) (k : ℕ) → among k xs ≡ true → place xs k < length xs
 place-in xs k h = rw h (index-lt xs k h)
 
-byte-at : (s : List ℕ) → Bytes s → (i : ℕ) → getD s i 0 < 256
+pub byte-at : (s : List ℕ) → Bytes s → (i : ℕ) → getD s i 0 < 256
 byte-at s b i = ⊎-elim (b .byte i) (λ h. rw (List·getD-eq-default s 0 {n = i} h) (omega arith)) (lt-or-le i (length s))
 
 -- ---- the nodes and rules of the records before
@@ -150,7 +150,7 @@ module _ (s : List ℕ) where
       go false = λ z. absurd (z refl)
 
   blank-along : (f : ℕ) (before : List ℕ) (r : ℕ) → Blank (along s f before r)
-  unfolding along
+  unfolding alongBy
   blank-along zero before r = last-blank before
   blank-along (suc f) before r = go (eqb r 0) _ (or-refused (fault s before r) r _ (blank-along f (before ++ (r ∷ [])) (entryOf s r .next)))
     where
@@ -160,5 +160,5 @@ module _ (s : List ℕ) where
 
 -- THE LAW: the table of a refused book is all zeros
 pub refused-empty : (s : List ℕ) → ¬ (reading s .number ≡ 0) → reading s .table ≡ noTable
-unfolding reading Blank
+unfolding readingBy Blank
 refused-empty s = or-refused s (headFault s) 0 _ (blank-along s 255 (0 ∷ []) (entryOf s 0 .next))

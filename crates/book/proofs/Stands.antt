@@ -26,7 +26,7 @@ use Rattle.limits.specs.Limits.{maxName}
 use Rattle.interval.specs.Parts.{badInterval}
 use Rattle.book.specs.Entries.{entryOf, usesIn, nameOf, formed, badForm, badArg, badLength, badHead}
 use Rattle.book.specs.Code.Steps.{seenAt, entered, noPlace, placeBy, nodeBy, ruleBy, nodeAdded, ruleAdded, added, badLink, builderRows, walkFault, begun, walkEnded}
-use Rattle.book.specs.Reading.{index, place, isNodeAt, isRuleAt, nodesIn, rulesIn, nodeOf, ruleOf, nodes, rules, linkFault, operandFault, countFault, delayFault, nameFault, rows, fault, headFault, finished}
+use Rattle.book.specs.Reading.{index, place, isNodeAt, isRuleAt, nodesIn, rulesIn, nodeOf, ruleOf, nodes, rules, linkFault, operandFault, countFault, delayFault, nameFault, rows, fault, faultBy, headFault, finished}
 use Rattle.book.specs.Keeps.{Kept}
 use Rattle.book.proofs.Tests.{other-kind, node-no-rule, node-uses, rule-uses}
 use Rattle.book.proofs.Among.{eqb-suc, among-snoc, among-filter, filter-in, filter-out, collect-in, collect-out, collect-map, collect-length, index-old, index-new, index-lt}
@@ -240,7 +240,7 @@ module _ {s before : List ℕ} {w : Walk} (t : Stands s before w) (r : ℕ) (b :
       go false n = rule-rows f n h
 
   pub fault-same : nameOf e ≤ maxName → walkFault (length s) (entered w r) e ≡ fault s before r
-  unfolding walkFault fault
+  unfolding walkFault faultBy
   fault-same h =
       row-same 3 (linkFault s (before ++ (r ∷ [])) e) link-same λ l.
       row-same 4 (badForm e) refl (later-same h)
@@ -251,15 +251,15 @@ module _ {s before : List ℕ} {w : Walk} (t : Stands s before w) (r : ℕ) (b :
     passed = before ++ (r ∷ [])
 
     keeps : Kept s before r e
-    unfolding fault
+    unfolding faultBy
     keeps = kept s before r e c
 
     form : badForm e ≡ false
-    unfolding fault
+    unfolding faultBy
     form = no-row (rows s before r e) refl c 1
 
     operands : operandFault ps e ≡ false
-    unfolding fault
+    unfolding faultBy
     operands = no-row (rows s before r e) refl c 4
 
     module _ (n : isNodeAt s r ≡ true) where

@@ -43,17 +43,15 @@ module _ (t : Table) (k : ℕ) where
       go false true = refl
       go false false = refl
 
--- ---- the fields of a node and of a rule
+-- ---- the operands of a node, and what a rule watches
 pub operands-small : (t : Table) → Sound t → (p : ℕ) → p < t .«node_count» → (nodeAt t p .left < 64) × (nodeAt t p .right < 64)
 operands-small t z p h =
     let f = z .node p h in
     let l : p ≤ 64 = omega (arith, z .few-nodes) in
     (field-below 64 (f .left) l (omega arith), field-below 64 (f .right) l (omega arith))
 
-pub rule-small : (t : Table) → Sound t → (q : ℕ) → q < t .«rule_count» → (ruleAt t q .name ≤ 255) × (ruleAt t q .watched < 64)
-rule-small t z q h =
-    let f = z .rule q h in
-    (f .largest, omega (arith, f .watched, z .few-nodes))
+pub watched-small : (t : Table) → Sound t → (q : ℕ) → q < t .«rule_count» → ruleAt t q .watched < 64
+watched-small t z q h = omega (arith, z .rule q h .watched, z .few-nodes)
 
 -- ---- the bytes of a record, all copied
 pub entry-copied : {xs out b : List ℕ} (at : ℕ) (e : Entry) (j : ℕ) → b ≡ bytesOf e [] → j ≡ 12 → Copied xs at b out j → out ≡ take at xs ++ bytesOf e (drop (at + 12) xs)

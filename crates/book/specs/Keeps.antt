@@ -27,9 +27,9 @@ pub record Head (e : Entry) : Type 0 where
   pub hi : e .hi ≡ 0
   pub left : e .left ≡ 0
   pub right : e .right ≡ 0
+  pub upper : e .upper ≡ 0
   pub tail0 : e .tail0 ≡ 0
   pub tail1 : e .tail1 ≡ 0
-  pub tail2 : e .tail2 ≡ 0
 
 -- 3: next is 0, or a record of the book that is none of those passed
 pub record Linked (s passed : List ℕ) (next : ℕ) : Type 0 where
@@ -45,9 +45,9 @@ pub record Formed (e : Entry) : Type 0 where
   pub hi : usesIn (e .kind) .interval ≡ false → e .hi ≡ 0
   pub left : usesIn (e .kind) .left ≡ false → e .left ≡ 0
   pub right : usesIn (e .kind) .right ≡ false → e .right ≡ 0
+  pub upper : ¬ (e .kind ≡ 11) → e .upper ≡ 0
   pub tail0 : e .tail0 ≡ 0
   pub tail1 : e .tail1 ≡ 0
-  pub tail2 : e .tail2 ≡ 0
 
 -- a node has a kind from 1 to 10
 pub record NodeKind (k : ℕ) : Type 0 where

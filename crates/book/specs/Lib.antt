@@ -10,5 +10,7 @@ pub mod Chain
 pub mod Writing
 -- what is relied on of writing: a written book is read back
 pub mod Back
+-- the reader before A11, when a name had one byte
+pub mod OneByte
 -- what only the steps of the code are about: no other crate names it
 pub mod Code

@@ -1,5 +1,6 @@
 -- What reading a book yields (document 01, The book and Refusals 1 to 11). The records of the chain are read one after the other. What
--- is known at a record are the book s and the records `before` on the chain, the head first; a record is its number.
+-- is known at a record are the book s and the records `before` on the chain, the head first; a record is its number. `names` says how a
+-- rule's name is written; without it, in two bytes.
 use Prim.Native.Nat.{ℕ, zero, suc, _+_, _*_}
 use mathlib.Core.Bool.{Bool, _&&_, _||_, not}
 use mathlib.Core.List.{List, [], _∷_, _++_, map}
@@ -16,7 +17,7 @@ use Rattle.table.specs.declared.Rule.{Rule}
 use Rattle.table.specs.declared.Table.{Table}
 use Rattle.book.specs.declared.Entry.{Entry}
 use Rattle.book.specs.declared.Reading.{Reading}
-use Rattle.book.specs.Entries.{entryOf, usesIn, isNode, isRule, nameOf, badForm, badArg, badLength, badHead}
+use Rattle.book.specs.Entries.{Naming, TwoBytes, entryOf, usesIn, isNode, isRule, nameBy, badFormBy, badArgBy, badLength, badHead}
 
 -- ---- the records that are nodes, and those that are rules
 abbrev pub filter : (ℕ → Bool) → List ℕ → List ℕ
@@ -55,8 +56,11 @@ nodeOf nodes e = record {
   right = place nodes (e .right);
 }
 
+abbrev pub ruleOfBy : Naming → List ℕ → Entry → Rule
+ruleOfBy names nodes e = record { name = nameBy names e; watched = place nodes (e .left) }
+
 abbrev pub ruleOf : List ℕ → Entry → Rule
-ruleOf nodes e = record { name = nameOf e; watched = place nodes (e .left) }
+ruleOf nodes e = ruleOfBy TwoBytes nodes e
 
 -- f of each record that p picks, with those before it
 abbrev pub collect : {A : Type 0} → (ℕ → Bool) → (List ℕ → ℕ → A) → List ℕ → List ℕ → List A
@@ -67,16 +71,22 @@ collect p f before (r ∷ rs) =
 abbrev pub nodes : List ℕ → List ℕ → List Node
 nodes s chain = collect (isNodeAt s) (λ before r. nodeOf (nodesIn s before) (entryOf s r)) [] chain
 
-abbrev pub rules : List ℕ → List ℕ → List Rule
-rules s chain = collect (isRuleAt s) (λ before r. ruleOf (nodesIn s before) (entryOf s r)) [] chain
+abbrev pub rulesBy : Naming → List ℕ → List ℕ → List Rule
+rulesBy names s chain = collect (isRuleAt s) (λ before r. ruleOfBy names (nodesIn s before) (entryOf s r)) [] chain
 
-abbrev pub tableOf : List ℕ → List ℕ → Table
-tableOf s chain = record {
+abbrev pub rules : List ℕ → List ℕ → List Rule
+rules s chain = rulesBy TwoBytes s chain
+
+abbrev pub tableOfBy : Naming → List ℕ → List ℕ → Table
+tableOfBy names s chain = record {
   nodes = padded noNode maxNodes (nodes s chain);
   «node_count» = length (nodes s chain);
-  rules = padded noRule maxRules (rules s chain);
-  «rule_count» = length (rules s chain);
+  rules = padded noRule maxRules (rulesBy names s chain);
+  «rule_count» = length (rulesBy names s chain);
 }
+
+abbrev pub tableOf : List ℕ → List ℕ → Table
+tableOf s chain = tableOfBy TwoBytes s chain
 
 -- ---- the tests of an entry where it stands, each true where the book is to be refused
 -- next is beyond the book, or a record that is passed, the record itself among them; 0 is the end
@@ -98,22 +108,32 @@ abbrev pub delayFault : List ℕ → List ℕ → Entry → Bool
 delayFault s before e = isNode (e .kind) && ltb maxDelay (delayOver (delays (nodes s before)) (nodeOf (nodesIn s before) e))
 
 -- an earlier rule has the name
+abbrev pub nameFaultBy : Naming → List ℕ → List ℕ → Entry → Bool
+nameFaultBy names s before e = isRule (e .kind) && among (nameBy names e) (map (λ q. nameBy names (entryOf s q)) (rulesIn s before))
+
 abbrev pub nameFault : List ℕ → List ℕ → Entry → Bool
-nameFault s before e = isRule (e .kind) && among (nameOf e) (map (λ q. nameOf (entryOf s q)) (rulesIn s before))
+nameFault s before e = nameFaultBy TwoBytes s before e
 
 -- the rows of document 01's table that can fit the record r, which holds e, and those that can fit the head
+abbrev pub rowsBy : Naming → List ℕ → List ℕ → ℕ → Entry → List Row
+rowsBy names s before r e =
+    (LINK if linkFault s (before ++ (r ∷ [])) e) ∷ (FORM if badFormBy names e) ∷ (ARGUMENT if badArgBy names e) ∷
+    (INTERVAL if badInterval (e .lo) (e .hi)) ∷ (OPERAND if operandFault (nodesIn s before) e) ∷ (FULL if countFault s before e) ∷
+    (LONG if delayFault s before e) ∷ (NAME if nameFaultBy names s before e) ∷ []
+
 abbrev pub rows : List ℕ → List ℕ → ℕ → Entry → List Row
-rows s before r e =
-    (LINK if linkFault s (before ++ (r ∷ [])) e) ∷ (FORM if badForm e) ∷ (ARGUMENT if badArg e) ∷ (INTERVAL if badInterval (e .lo) (e .hi)) ∷
-    (OPERAND if operandFault (nodesIn s before) e) ∷ (FULL if countFault s before e) ∷ (LONG if delayFault s before e) ∷ (NAME if nameFault s before e) ∷ []
+rows s before r e = rowsBy TwoBytes s before r e
 
 abbrev pub headRows : List ℕ → List Row
 headRows s =
     (LENGTH if badLength (length s)) ∷ (HEAD if badHead (entryOf s 0)) ∷ (LINK if linkFault s (0 ∷ []) (entryOf s 0)) ∷ []
 
 -- the number of the first row that fits, or 0
-unfoldable pub fault : List ℕ → List ℕ → ℕ → ℕ
-fault s before r = first (rows s before r (entryOf s r))
+unfoldable pub faultBy : Naming → List ℕ → List ℕ → ℕ → ℕ
+faultBy names s before r = first (rowsBy names s before r (entryOf s r))
+
+abbrev pub fault : List ℕ → List ℕ → ℕ → ℕ
+fault s before r = faultBy TwoBytes s before r
 
 unfoldable pub headFault : List ℕ → ℕ
 headFault s = first (headRows s)
@@ -130,18 +150,27 @@ abbrev pub unless : ℕ → ℕ → Reading → Reading
 unless n r x = pick (eqb n 0) x (refused n r)
 
 -- the end of a chain, which is refused where it had no rule
+abbrev pub finishedBy : Naming → List ℕ → List ℕ → Reading
+finishedBy names s chain = unless (first ((RULELESS if eqb (length (rulesBy names s chain)) 0) ∷ [])) 0 (accepted (tableOfBy names s chain))
+
 abbrev pub finished : List ℕ → List ℕ → Reading
-finished s chain = unless (first ((RULELESS if eqb (length (rules s chain)) 0) ∷ [])) 0 (accepted (tableOf s chain))
+finished s chain = finishedBy TwoBytes s chain
 
 -- the record r of the chain, 0 at its end, and those that it leads to; f is how many there can be
-unfoldable pub along : List ℕ → ℕ → List ℕ → ℕ → Reading
-along s zero before r = finished s before
-along s (suc f) before r =
-    pick (eqb r 0) (finished s before)
-    (unless (fault s before r) r (along s f (before ++ (r ∷ [])) (entryOf s r .next)))
+unfoldable pub alongBy : Naming → List ℕ → ℕ → List ℕ → ℕ → Reading
+alongBy names s zero before r = finishedBy names s before
+alongBy names s (suc f) before r =
+    pick (eqb r 0) (finishedBy names s before)
+    (unless (faultBy names s before r) r (alongBy names s f (before ++ (r ∷ [])) (entryOf s r .next)))
 
-unfoldable pub reading : List ℕ → Reading
-reading s = unless (headFault s) 0 (along s maxRecords (0 ∷ []) (entryOf s 0 .next))
+abbrev pub along : List ℕ → ℕ → List ℕ → ℕ → Reading
+along s f before r = alongBy TwoBytes s f before r
+
+unfoldable pub readingBy : Naming → List ℕ → Reading
+readingBy names s = unless (headFault s) 0 (alongBy names s maxRecords (0 ∷ []) (entryOf s 0 .next))
+
+abbrev pub reading : List ℕ → Reading
+reading s = readingBy TwoBytes s
 
 -- a reading as one number: 0 if the book is accepted
 abbrev pub codeOf : Reading → ℕ

@@ -17,22 +17,33 @@ use Rattle.table.specs.declared.Table.{Table}
 use Rattle.table.specs.Sound.{isSound}
 use Rattle.book.specs.declared.Entry.{Entry}
 use Rattle.book.specs.declared.Writing.{Writing}
-use Rattle.book.specs.Entries.{Bytes, usesIn}
-use Rattle.book.specs.Reading.{reading, accepted}
+use Rattle.book.specs.Entries.{Naming, TwoBytes, Bytes, usesIn}
+use Rattle.book.specs.Reading.{readingBy, accepted}
 
 -- the 12 bytes of an entry before those of s
 abbrev pub bytesOf : Entry → List ℕ → List ℕ
 bytesOf e s =
-    e .kind ∷ e .arg ∷ e .lo % 256 ∷ e .lo / 256 ∷ e .hi % 256 ∷ e .hi / 256 ∷ e .left ∷ e .right ∷ e .next ∷ e .tail0 ∷ e .tail1 ∷ e .tail2 ∷ s
+    e .kind ∷ e .arg ∷ e .lo % 256 ∷ e .lo / 256 ∷ e .hi % 256 ∷ e .hi / 256 ∷ e .left ∷ e .right ∷ e .next ∷ e .upper ∷ e .tail0 ∷ e .tail1 ∷ s
 
 abbrev pub bytes : List Entry → List ℕ
 bytes [] = []
 bytes (e ∷ es) = bytesOf e (bytes es)
 
 -- ---- the records: 0 is the head, 1 + p the node at place p, and 1 + nodes + q the rule at place q
--- one without an interval and a right operand
+-- one without an interval and a right operand; its name, 0 where it has none, in two bytes
 abbrev pub plainEntry : ℕ → ℕ → ℕ → ℕ → Entry
-plainEntry kind arg left to = record { kind = kind; arg = arg; lo = 0; hi = 0; left = left; right = 0; next = to; tail0 = 0; tail1 = 0; tail2 = 0 }
+plainEntry kind name left to = record {
+  kind = kind;
+  arg = name % 256;
+  lo = 0;
+  hi = 0;
+  left = left;
+  right = 0;
+  next = to;
+  upper = name / 256;
+  tail0 = 0;
+  tail1 = 0;
+}
 
 abbrev pub headEntry : ℕ → Entry
 headEntry to = plainEntry 0 0 0 to
@@ -46,9 +57,9 @@ nodeEntry n to = record {
   left = pick (usesIn (n .kind) .left) (n .left + 1) 0;
   right = pick (usesIn (n .kind) .right) (n .right + 1) 0;
   next = to;
+  upper = 0;
   tail0 = 0;
   tail1 = 0;
-  tail2 = 0;
 }
 
 abbrev pub ruleEntry : Rule → ℕ → Entry
@@ -91,7 +102,10 @@ unfoldable pub writtenInto : Table → List ℕ → List ℕ
 writtenInto t out = pick (eqb (writeNumber t (length out)) 0) (bookOf t ++ drop (bookLength t) out) out
 
 -- some book of bytes is accepted, and yields the table
-pub record Yielded (t : Table) : Type 0 where
+pub record YieldedBy (names : Naming) (t : Table) : Type 0 where
   pub book : List ℕ
   pub bytes : Bytes book
-  pub reads : reading book ≡ accepted t
+  pub reads : readingBy names book ≡ accepted t
+
+abbrev pub Yielded : Table → Type 0
+Yielded t = YieldedBy TwoBytes t

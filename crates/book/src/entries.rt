@@ -32,9 +32,9 @@ fn entry_from(s: &[u8], at: usize) -> Entry
         left: s[at + 6],
         right: s[at + 7],
         next: s[at + 8],
-        tail0: s[at + 9],
-        tail1: s[at + 10],
-        tail2: s[at + 11],
+        upper: s[at + 9],
+        tail0: s[at + 10],
+        tail1: s[at + 11],
     }
 }
 
@@ -66,8 +66,8 @@ pub(crate) fn is_node(k: u8) -> bool
     (1 <= k) & (k <= 10)
 }
 
-fn formed_by(used: Uses, e: Entry) -> bool
-    ensures { λ b. ⌜ b ≡ formedBy used e ⌝ }
+fn formed_by(used: Uses, upper: bool, e: Entry) -> bool
+    ensures { λ b. ⌜ b ≡ formedBy used upper e ⌝ }
 {
     (1 <= e.kind)
         & (e.kind <= 11)
@@ -75,22 +75,22 @@ fn formed_by(used: Uses, e: Entry) -> bool
         & (used.interval | ((e.lo == 0) & (e.hi == 0)))
         & (used.left | (e.left == 0))
         & (used.right | (e.right == 0))
+        & (upper | (e.upper == 0))
         & (e.tail0 == 0)
         & (e.tail1 == 0)
-        & (e.tail2 == 0)
 }
 
 pub(crate) fn bad_form(e: Entry) -> bool
     ensures { λ b. ⌜ b ≡ badForm e ⌝ }
 {
-    !formed_by(uses_in(e.kind), e)
+    !formed_by(uses_in(e.kind), e.kind == 11, e)
 }
 
 // The name of a rule's record.
 pub(crate) fn name_of(e: Entry) -> u16
     ensures { λ n. ⌜ n ≡ nameOf e ⌝ }
 {
-    e.arg as u16
+    lists::pair_of(e.arg, e.upper)
 }
 
 pub(crate) fn bad_length(n: usize) -> bool
@@ -108,7 +108,7 @@ pub(crate) fn bad_head(e: Entry) -> bool
         & (e.hi == 0)
         & (e.left == 0)
         & (e.right == 0)
+        & (e.upper == 0)
         & (e.tail0 == 0)
-        & (e.tail1 == 0)
-        & (e.tail2 == 0))
+        & (e.tail1 == 0))
 }

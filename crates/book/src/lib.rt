@@ -16,7 +16,7 @@ mod entries;
 mod writer;
 
 // What a record of the book holds: its kind and the record that it links to, then the fields that its kind may use, where an operand
-// is the number of a record, and a tail that is to be zero.
+// is the number of a record and `upper` the upper half of a rule's name, and a tail that is to be zero.
 struct Entry {
     kind: u8,
     next: u8,
@@ -25,9 +25,9 @@ struct Entry {
     hi: u16,
     left: u8,
     right: u8,
+    upper: u8,
     tail0: u8,
     tail1: u8,
-    tail2: u8,
 }
 
 // Where the walk along the chain stands: the table so far, and of each record 0 if it is not passed, 1 if it is

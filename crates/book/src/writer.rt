@@ -9,26 +9,26 @@ ghost use mathlib.Core.Path.{_≡_};
 ghost use Prim.Native.Nat.{_+_, _≤_, _<_};
 ghost use mathlib.Core.List.{[], _++_};
 ghost use lib.ListN.{length, take, drop};
-ghost use Rattle.limits.specs.Limits.{maxNodes, maxName, recordBytes};
+ghost use Rattle.limits.specs.Limits.{maxNodes, recordBytes};
 ghost use Rattle.lists.specs.Choice.{pick};
 ghost use Rattle.table.specs.Sound.{Sound};
 ghost use Rattle.book.specs.Writing.{bytesOf, plainEntry, nodeEntry, ruleEntry, many, entryFor, bookOf, bookLength};
 
-// A record without an interval and a right operand.
-fn plain_entry(kind: u8, arg: u8, left: u8, next: u8) -> Entry
-    ensures { λ e. ⌜ e ≡ plainEntry kind arg left next ⌝ }
+// A record without an interval and a right operand; its name, 0 where it has none, in two bytes.
+fn plain_entry(kind: u8, name: u16, left: u8, next: u8) -> Entry
+    ensures { λ e. ⌜ e ≡ plainEntry kind name left next ⌝ }
 {
     Entry {
         kind,
         next,
-        arg,
+        arg: (name % 256) as u8,
         lo: 0,
         hi: 0,
         left,
         right: 0,
+        upper: (name / 256) as u8,
         tail0: 0,
         tail1: 0,
-        tail2: 0,
     }
 }
 
@@ -55,17 +55,17 @@ fn node_entry(n: Node, next: u8) -> Entry
         hi: n.hi,
         left,
         right,
+        upper: 0,
         tail0: 0,
         tail1: 0,
-        tail2: 0,
     }
 }
 
 fn rule_entry(r: Rule, next: u8) -> Entry
-    requires { ⌜ (r .name ≤ maxName) × (r .watched < maxNodes) ⌝ }
+    requires { ⌜ r .watched < maxNodes ⌝ }
     ensures { λ e. ⌜ e ≡ ruleEntry r next ⌝ }
 {
-    plain_entry(11, r.name as u8, r.watched + 1, next)
+    plain_entry(11, r.name, r.watched + 1, next)
 }
 
 // The record k: the head, a node or a rule, linked to the record after it.
@@ -96,9 +96,9 @@ fn bytes_of(e: Entry) -> [u8; RECORD_BYTES]
         e.left,
         e.right,
         e.next,
+        e.upper,
         e.tail0,
         e.tail1,
-        e.tail2,
     ]
 }
 

@@ -12,7 +12,7 @@ abbrev pub maxSignal : ℕ
 maxSignal = 31
 
 abbrev pub maxName : ℕ
-maxName = 255
+maxName = 65535
 
 -- the largest hi of an interval, and the most parts that one is split into
 abbrev pub maxInterval : ℕ

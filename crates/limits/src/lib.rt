@@ -8,7 +8,7 @@ pub const MAX_RULES: usize = 8;
 
 pub const MAX_SIGNAL: u8 = 31;
 
-pub const MAX_NAME: u16 = 255;
+pub const MAX_NAME: u16 = 65535;
 
 // The largest hi of an interval, and the most parts that one is split into.
 pub const MAX_INTERVAL: u16 = 4095;

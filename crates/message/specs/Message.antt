@@ -34,7 +34,7 @@ n says s = record { number = n; says = s }
 
 abbrev pub sentences : List Sentence
 sentences =
-    ARGUMENT says "A signal is above s31, or the rule's name is 0 or above 255.\n" ∷
+    ARGUMENT says "A signal is above s31, or the rule's name is 0 or above 65535.\n" ∷
     INTERVAL says "An interval [a,b] has a above b, or b above 4095.\n" ∷
     FULL says "Up to this line there are more than 64 atoms and operators, or more than 8 rules.\n" ∷
     LONG says "The rule or a part of it waits for more than 4095 later states.\n" ∷

@@ -86,7 +86,7 @@ fn put_sentence(out: &mut [u8], at: usize, number: u8) -> usize
         return rows::put_text(
             out,
             at,
-            b"A signal is above s31, or the rule's name is 0 or above 255.\n",
+            b"A signal is above s31, or the rule's name is 0 or above 65535.\n",
         );
     }
     if number == refusals::INTERVAL {

@@ -9,7 +9,8 @@ use mathlib.Core.List.{List, [], _∷_, _++_, map, append-assoc, append-nil}
 use lib.Dec.{eqb}
 use lib.ListN.{length, getD, take, set, length-set}
 use lib.Seq.{getD-set-same, getD-set-other, take-nil}
-use borrow.Author.Tests.{eqb-true, lt-ltb, le-ltb, leb-false}
+use borrow.Author.Tests.{eqb-true, lt-ltb, le-ltb, leb-false, lt-leb}
+use Rattle.limits.specs.Limits.{maxName}
 use Rattle.lists.specs.Choice.{pick}
 use Rattle.lists.proofs.Rows.{no-row}
 use Rattle.lists.proofs.Sequences.{ticks-ext, ticks-snoc}
@@ -26,7 +27,7 @@ use Rattle.grammar.specs.Machine.{item}
 use Rattle.grammar.specs.Made.{made, nodesOf, spreadOn, spread}
 use Rattle.grammar.specs.Images.{held, itemM}
 use Rattle.grammar.specs.Tape.{Tape, tape, withCells, emitted}
-use Rattle.text.specs.Typing.{inByte, inTwoBytes, nodeOf, grown, ruled, lineAdded, madeAt, madesOf}
+use Rattle.text.specs.Typing.{inByte, inTwoBytes, nodeOf, nameHeld, grown, ruled, lineAdded, madeAt, madesOf}
 use Rattle.text.proofs.Forms.{Formed, Forms, none, more, formula-forms, take-forms}
 
 -- a node from five numbers
@@ -158,6 +159,11 @@ wide-held : (n : ℕ) → inTwoBytes (held n) ≡ inTwoBytes n
 unfolding held
 wide-held n = omega arith
 
+name-held : (n : ℕ) → nameHeld (held n) ≡ nameHeld n
+unfolding held
+name-held n =
+    ⊎-elim (λ l. rw (lt-leb (held n) maxName (omega arith), lt-leb n maxName (omega arith))) (λ l. let e : held n ≡ n = omega arith in rw e) (lt-or-le maxName n)
+
 node-as : (base count k a b d l a′ b′ d′ l′ : ℕ) → inByte a ≡ inByte a′ → inTwoBytes b ≡ inTwoBytes b′ → inTwoBytes d ≡ inTwoBytes d′ → min l 64 ≡ min l′ 64
     → nodeOf base count (made (item k a b d) l) ≡ nodeOf base count (made (item k a′ b′ d′) l′)
 node-as base count k a b d l a′ b′ d′ l′ p q r s = cc
@@ -206,4 +212,4 @@ line-decoded t f n c d k h e g =
     let a = ap (grown base t) b ∙ grown-capped base t (take-forms 65 (formula-forms f)) ∙ grown-take 65 (nodesOf f) base t (omega arith) (omega arith) in
     let u = grown base t (nodesOf f) in
     ap₂ ruled a (sym g)
-    ∙ ap (λ (x : ℕ). pick (eqb (u .number) 0) (addingRule (u .table) (record { name = x; watched = inByte (u .table .«node_count» - 1) })) u) (wide-held n)
+    ∙ ap (λ (x : ℕ). pick (eqb (u .number) 0) (addingRule (u .table) (record { name = x; watched = inByte (u .table .«node_count» - 1) })) u) (name-held n)

@@ -20,11 +20,21 @@ own-line : typed (ascii "7: F[1,3] s0\n")
 unfolding typed typedFrom fate step plain puts unaryDone depth lineAdded grown addingNode addingRule chain delayBy every
 own-line = refl
 
--- the name 0, in the second line; the name of the first line again
+-- the name 0, in the second line
 name-0 : typed (ascii "1:s0\n0:s0\n") ≡ refused 5 2
 unfolding typed typedFrom fate step plain puts unaryDone depth lineAdded grown addingNode addingRule chain delayBy every
 name-0 = refl
 
+-- the largest name, and the one above it
+name-65535 : typed (ascii "65535:s0\n") .number ≡ 0
+unfolding typed typedFrom fate step plain puts unaryDone depth lineAdded grown addingNode addingRule chain delayBy every
+name-65535 = refl
+
+name-65536 : typed (ascii "65536:s0\n") ≡ refused 5 1
+unfolding typed typedFrom fate step plain puts unaryDone depth lineAdded grown addingNode addingRule chain delayBy every
+name-65536 = refl
+
+-- the name of the first line again
 name-again : typed (ascii "1:s0\n1:s1\n") ≡ refused 10 2
 unfolding typed typedFrom fate step plain puts unaryDone depth lineAdded grown addingNode addingRule chain delayBy every
 name-again = refl

@@ -7,8 +7,9 @@ use mathlib.Core.Bool.{Bool, true, false, true≢false}
 use mathlib.Core.List.{List, [], _∷_, _++_, map-append}
 use lib.Dec.{leb, eqb}
 use lib.ListN.{length, getD}
-use borrow.Author.Tests.{eqb-true, eqb-false, ne-eqb, le-ltb, lt-leb}
-use Rattle.lists.specs.Choice.{_if_, first}
+use borrow.Author.Tests.{eqb-true, eqb-false, ne-eqb, le-ltb, le-leb, leb-true, lt-leb}
+use Rattle.limits.specs.Limits.{maxName}
+use Rattle.lists.specs.Choice.{pick, _if_, first}
 use Rattle.lists.specs.Sequence.{among}
 use Rattle.lists.proofs.Tests.{true-or-false}
 use Rattle.lists.proofs.Sequences.{length-snoc, at-last, at-old, each-place}
@@ -23,7 +24,7 @@ use Rattle.builder.specs.Built.{tableHolding}
 use Rattle.builder.proofs.Holding.{names, name-held, rule-held, rule-number, rule-taken}
 use Rattle.builder.proofs.Sound.{rule-fits, rule-room, rule-new}
 use Rattle.grammar.specs.Made.{nodesOf}
-use Rattle.text.specs.Typing.{inByte, inTwoBytes, added, grown, ruleOf, ruled, lineAdded}
+use Rattle.text.specs.Typing.{inByte, nameHeld, added, grown, ruleOf, ruled, lineAdded}
 use Rattle.text.specs.Accepted.{size, sizes}
 use Rattle.text.proofs.Grows.{Refusal, refused-number, Fits, Fit, After, fit, unfit, after}
 
@@ -31,8 +32,19 @@ use Rattle.text.proofs.Grows.{Refusal, refused-number, Fits, Fit, After
 record NameFits (rs : List Rule) (n : ℕ) : Type 0 where
   room : length rs < 8
   named : 1 ≤ n
-  largest : n ≤ 255
+  largest : n ≤ maxName
   new : among n (names rs) ≡ false
+
+-- a name that is held as one is small enough, and is itself
+name-in : (n : ℕ) → 1 ≤ nameHeld n → n ≤ maxName
+name-in n = go (leb n maxName) refl
+  where
+    go : (b : Bool) → leb n maxName ≡ b → 1 ≤ pick b n 0 → n ≤ maxName
+    go true e h = leb-true n maxName e
+    go false e h = absurd (omega arith)
+
+name-is : (n : ℕ) → n ≤ maxName → nameHeld n ≡ n
+name-is n h = rw (le-leb n maxName h)
 
 rule-none : {a b c d : Bool} → a ≡ false → b ≡ false → c ≡ false → d ≡ false → first ((5 if a) ∷ (7 if b) ∷ (8 if c) ∷ (10 if d) ∷ []) ≡ 0
 rule-none p q r s = rw (p, q, r, s)
@@ -62,22 +74,19 @@ module _ (vs : List Node) (rs : List Rule) (n : ℕ) (some : 1 ≤ length vs) wh
   name-taken z =
       let r = sym (rule-number nodes-in rule) ∙ z in
       let k = rule-fits vs rs rule r in
-      let a = k .named in
-      let b = k .largest in
-      let e : inTwoBytes n ≡ n = omega arith in
+      let small = name-in n (k .named) in
+      let e = name-is n small in
       record {
         room = rule-room vs rs rule r;
-        named = omega arith;
-        largest = omega arith;
+        named = subst (λ (m : ℕ). 1 ≤ m) e (k .named);
+        largest = small;
         new = subst (λ (m : ℕ). among m (names rs) ≡ false) e (rule-new vs rs rule r);
       }
 
   taken-name : NameFits rs n → addingRule nodes-in rule .number ≡ 0
   taken-name k =
-      let a = k .named in
-      let b = k .largest in
-      let e : inTwoBytes n ≡ n = omega arith in
-      let bad : badName rule ≡ false = rw (ne-eqb (inTwoBytes n) 0 (λ z. omega arith), le-ltb 255 (inTwoBytes n) (omega arith)) in
+      let e = name-is n (k .largest) in
+      let bad : badName rule ≡ false = rw (e, ne-eqb n 0 (λ z. omega (arith, k .named)), le-ltb maxName n (k .largest)) in
       let used : nameUsed nodes-in rule ≡ false = name-held vs rs rule ∙ subst (λ (m : ℕ). among m (names rs) ≡ false) (sym e) (k .new) in
       rule-number nodes-in rule ∙ rule-none bad no-operand (lt-leb 8 (length rs) (k .room)) used
 
@@ -103,7 +112,7 @@ pub record LineFits (ns : List ℕ) (fs : List Formula) (n : ℕ) (f : Formula) 
   pub formula : Fits (sizes fs) f
   pub room : length fs < 8
   pub named : 1 ≤ n
-  pub largest : n ≤ 255
+  pub largest : n ≤ maxName
   pub new : among n ns ≡ false
 
 pub data Line (ns : List ℕ) (fs : List Formula) (t : Table) (n : ℕ) (f : Formula) : Type 0 where
@@ -146,16 +155,14 @@ module _ (ns : List ℕ) (fs : List Formula) (t : Table) (h : Holds ns fs t) (n 
         let b = h .count in
         let s = some in
         let few = w .fits .room in
-        let largest = k .largest in
         let e : inByte (length ws - 1) ≡ length ws - 1 = omega arith in
-        let name-is : inTwoBytes n ≡ n = omega arith in
         record {
           nodes = ws;
           rules = rs ++ (new ∷ []);
           is = refl;
           count = let c = sizes-snoc fs f in omega arith;
           many = let c = h .many in let p = length-snoc rs new noRule in let q = length-snoc fs f f in omega arith;
-          named = map-append (λ (r : Rule). r .name) rs (new ∷ []) ∙ ap₂ (λ (xs : List ℕ) (x : ℕ). xs ++ (x ∷ [])) (h .named) name-is;
+          named = map-append (λ (r : Rule). r .name) rs (new ∷ []) ∙ ap₂ (λ (xs : List ℕ) (x : ℕ). xs ++ (x ∷ [])) (h .named) (name-is n (k .largest));
           inside =
               each-place rs new (λ k. getD (rs ++ (new ∷ [])) k noRule .watched < length ws)
               (λ k l. rw (at-old rs new noRule k l) (let i = h .inside k l in omega arith)) (rw (at-last rs new noRule) (omega arith));

@@ -7,6 +7,7 @@ use mathlib.Core.List.{List, [], _∷_, _++_}
 use lib.Dec.{eqb}
 use lib.ListN.{length, getD, replicate, length-map, List·getD-map}
 use borrow.Author.Tests.{eqb-false, ne-eqb}
+use Rattle.limits.specs.Limits.{maxName}
 use Rattle.lists.specs.Sequence.{among}
 use Rattle.lists.proofs.Tests.{or-left, or-right}
 use Rattle.lists.proofs.Sequences.{length-snoc, at-last, at-old, each-place, getD-padded, length-padded, chain-prefix}
@@ -40,7 +41,7 @@ pub record Part (ns : List ℕ) (fs : List Formula) : Type 0 where
   pub numbers : (k : ℕ) → k < length fs → NumbersFit (getD fs k (const false))
   pub short : (k : ℕ) → k < length fs → longest (getD fs k (const false)) ≤ 4095
   pub named : (k : ℕ) → k < length ns → 1 ≤ getD ns k 0
-  pub largest : (k : ℕ) → k < length ns → getD ns k 0 ≤ 255
+  pub largest : (k : ℕ) → k < length ns → getD ns k 0 ≤ maxName
   pub distinct : (j k : ℕ) → j < k → k < length ns → ¬ (getD ns j 0 ≡ getD ns k 0)
 
 pub part-of : {ns : List ℕ} {fs : List Formula} → Within ns fs → Part ns fs
@@ -97,7 +98,7 @@ module _ (ns : List ℕ) (fs : List Formula) (n : ℕ) (f : Formula) where
         each-place fs f (λ k. longest (getD fs′ k (const false)) ≤ 4095) (λ k h. rw (at-old fs f (const false) k h) (p .short k h))
         (rw (at-last fs f (const false)) (l .formula .short));
     named = each-place ns n (λ k. 1 ≤ getD ns′ k 0) (λ k h. rw (at-old ns n 0 k h) (p .named k h)) (rw (at-last ns n 0) (l .named));
-    largest = each-place ns n (λ k. getD ns′ k 0 ≤ 255) (λ k h. rw (at-old ns n 0 k h) (p .largest k h)) (rw (at-last ns n 0) (l .largest));
+    largest = each-place ns n (λ k. getD ns′ k 0 ≤ maxName) (λ k h. rw (at-old ns n 0 k h) (p .largest k h)) (rw (at-last ns n 0) (l .largest));
     distinct = λ j k m h.
         each-place ns n (λ i. j < i → ¬ (getD ns′ j 0 ≡ getD ns′ i 0))
         (λ i h m e. p .distinct j i m h (sym (at-old ns n 0 j (omega arith)) ∙ e ∙ at-old ns n 0 i h))
@@ -122,7 +123,7 @@ module _ (ns : List ℕ) (fs : List Formula) (n : ℕ) (f : Formula) where
           numbers = λ k h. subst NumbersFit (at-old fs f (const false) k h) (p .numbers k (omega arith));
           short = λ k h. subst (λ (g : Formula). longest g ≤ 4095) (at-old fs f (const false) k h) (p .short k (omega arith));
           named = λ k h. subst (λ (m : ℕ). 1 ≤ m) (at-old ns n 0 k h) (p .named k (omega arith));
-          largest = λ k h. subst (λ (m : ℕ). m ≤ 255) (at-old ns n 0 k h) (p .largest k (omega arith));
+          largest = λ k h. subst (λ (m : ℕ). m ≤ maxName) (at-old ns n 0 k h) (p .largest k (omega arith));
           distinct = λ j k l h e. p .distinct j k l (omega arith) (at-old ns n 0 j (omega arith) ∙ e ∙ sym (at-old ns n 0 k h));
         }
 
@@ -137,7 +138,7 @@ module _ (ns : List ℕ) (fs : List Formula) (n : ℕ) (f : Formula) where
           };
           room = let r = p .few-rules in omega arith;
           named = subst (λ (m : ℕ). 1 ≤ m) (at-last ns n 0) (p .named (length ns) name-place);
-          largest = subst (λ (m : ℕ). m ≤ 255) (at-last ns n 0) (p .largest (length ns) name-place);
+          largest = subst (λ (m : ℕ). m ≤ maxName) (at-last ns n 0) (p .largest (length ns) name-place);
           new = among-in n ns (λ k h e. p .distinct k (length ns) h name-place (at-old ns n 0 k h ∙ e ∙ sym (at-last ns n 0)));
         }
 

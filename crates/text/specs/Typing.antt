@@ -1,9 +1,9 @@
 -- What typed lines yield: a table, or a refusal with its number, and the place of a fault of syntax or the line of any other fault.
 use Prim.Native.Nat.{ℕ, zero, suc, _+_, _*_, _-_, min}
 use mathlib.Core.List.{List, [], _∷_}
-use lib.Dec.{eqb}
+use lib.Dec.{leb, eqb}
 use lib.ListN.{length, getD}
-use Rattle.limits.specs.Limits.{maxDepth}
+use Rattle.limits.specs.Limits.{maxDepth, maxName}
 use Rattle.refusals.specs.Numbers.{RULELESS}
 use Rattle.lists.specs.Choice.{pick}
 use Rattle.lists.specs.Sequence.{ticks}
@@ -47,8 +47,12 @@ grown base t (m ∷ ms) =
     pick (eqb (a .number) 0) (grown base (a .table) ms) a
 
 -- ---- the rule, which watches the last node
+-- a name above the largest is taken for 0, which no rule has either: the same row refuses both
+abbrev pub nameHeld : ℕ → ℕ
+nameHeld n = pick (leb n maxName) n 0
+
 abbrev pub watching : ℕ → ℕ → Rule
-watching count name = record { name = inTwoBytes name; watched = inByte (count - 1) }
+watching count name = record { name = nameHeld name; watched = inByte (count - 1) }
 
 abbrev pub ruleOf : Table → ℕ → Rule
 ruleOf t name = watching (t .«node_count») name

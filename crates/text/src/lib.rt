@@ -2,6 +2,7 @@
 use builder::Added;
 use grammar::Item;
 use grammar::Made;
+use limits::MAX_NAME;
 use limits::MAX_NODES;
 use parser::TAPE_WORDS;
 use table::Node;
@@ -12,7 +13,7 @@ ghost use Prim.Native.Nat.{_+_, _-_, _≤_, _<_, min};
 ghost use lib.ListN.{length};
 ghost use Rattle.builder.specs.Built.{Delays};
 ghost use Rattle.grammar.specs.Tape.{keptNodes, tapeWords};
-ghost use Rattle.text.specs.Typing.{inByte, inTwoBytes, nodeOf, watching, lineAdded, refused, typed, madeAt, madesOf};
+ghost use Rattle.text.specs.Typing.{inByte, inTwoBytes, nodeOf, nameHeld, watching, lineAdded, refused, typed, madeAt, madesOf};
 
 // The number of a refusal and its place or line, with a table of zeros; or 0, 0 and the table.
 pub struct Typed {
@@ -96,11 +97,18 @@ fn node_of(m: Made, base: usize, count: usize) -> Node
 
 // ---- lines
 
+// A name above the largest is taken for 0, which is refused as it is.
+fn as_name(n: u32) -> u16
+    ensures { λ r. ⌜ r ≡ nameHeld n ⌝ }
+{
+    if n <= MAX_NAME as u32 { n as u16 } else { 0 }
+}
+
 // The rule of a line, which watches the last of `count` nodes.
 fn rule_of(count: usize, name: u32) -> Rule
     ensures { λ r. ⌜ r ≡ watching count name ⌝ }
 {
-    let name = as_two(name);
+    let name = as_name(name);
     let watched = before(count);
     Rule { name, watched }
 }

@@ -6,7 +6,7 @@ use Rattle.lists.specs.Bits.{bit}
 use Rattle.lists.specs.Sequence.{every, chain}
 use Rattle.mltl.specs.Mltl.{holds, delayBy, someFrom, someTick, everyTick, eventually, until, opposite, always, release}
 use Rattle.book.specs.Entries.{usesIn}
-use Rattle.book.specs.Reading.{reading, headFault, fault, along}
+use Rattle.book.specs.Reading.{reading, readingBy, headFault, faultBy, alongBy}
 use Rattle.simplify.specs.declared.Simplified.{Simplified}
 use Rattle.simplify.specs.Promise.{Promised}
 use Rattle.session.specs.Session.{opening}
@@ -42,5 +42,5 @@ module _ (read : reading book .number ≡ 0) (simplified : Simplified) (promised
   start = record { source = mission.book book; read = read; simplified = simplified; promised = promised; accepted = accepted; rule = 0; opened = opened; history = history }
 
   pub worked-example : printed start input ≡ output
-  unfolding bit printed reading headFault fault along usesIn chain every delayBy holds someFrom someTick everyTick eventually until opposite always release lineAfter placesFrom decimal row rowsFrom
+  unfolding bit printed readingBy headFault faultBy alongBy usesIn chain every delayBy holds someFrom someTick everyTick eventually until opposite always release lineAfter placesFrom decimal row rowsFrom
   worked-example = refl

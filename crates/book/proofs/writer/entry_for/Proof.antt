@@ -5,7 +5,7 @@ use native.Mathlib.Omega.{arith}
 use borrow.Author.Needs.{needs}
 use Rattle.table.specs.Nodes.{nodeAt, ruleAt}
 use Rattle.book.specs.Writing.{headEntry, nodeEntry, ruleEntry}
-use Rattle.book.proofs.Writes.{head-for, node-for, rule-for, operands-small, rule-small}
+use Rattle.book.proofs.Writes.{head-for, node-for, rule-for, operands-small, watched-small}
 use Rattle.book.proofs.writer.entry_for.Statement.{statement}
 use Rattle.book.proofs.writer.entry_for.Tie as tie
 
@@ -29,7 +29,7 @@ returns-2 c =
 rule-entry-requires : tie.Need-rule-entry-requires
 rule-entry-requires c κs =
     let l = c .before .before .before in
-    rule-small (l .before .args .t1) (l .before .pre .0) _ (omega arith)
+    watched-small (l .before .args .t1) (l .before .pre .0) _ (omega arith)
 
 returns-3 : tie.Need-returns-3
 returns-3 c =
