@@ -44,7 +44,7 @@ extern "C" {
 #define JUNTREAK_MAX_NODES 64                   /* nodes of a table */
 #define JUNTREAK_MAX_RULES 8                    /* rules of a table */
 #define JUNTREAK_MAX_SIGNAL 31                  /* the largest signal */
-#define JUNTREAK_MAX_NAME 255                   /* the largest name of a rule */
+#define JUNTREAK_MAX_NAME 65535                 /* the largest name of a rule */
 #define JUNTREAK_MAX_INTERVAL 4095              /* hi of an interval */
 #define JUNTREAK_MAX_PARTS 12                   /* parts of an interval */
 #define JUNTREAK_MAX_DELAY 4095                 /* delay of a node */
@@ -70,8 +70,8 @@ enum {
     JUNTREAK_LENGTH = 1,    /* length not 12 * (1..255); record 0 */
     JUNTREAK_HEAD = 2,      /* head has a byte set beside its next; record 0 */
     JUNTREAK_LINK = 3,      /* next beyond the book or already passed; the record that links */
-    JUNTREAK_FORM = 4,      /* kind not 1..11, or an unused field or byte 9-11 set */
-    JUNTREAK_ARGUMENT = 5,  /* signal above 31, or name 0; typed, also a name above 255 */
+    JUNTREAK_FORM = 4,      /* kind not 1..11, or an unused field, byte 9 of a node or byte 10-11 set */
+    JUNTREAK_ARGUMENT = 5,  /* signal above 31, or name 0; typed, also a name above 65535 */
     JUNTREAK_INTERVAL = 6,  /* lo > hi or hi > 4095; splitting answers it with record 0 */
     JUNTREAK_OPERAND = 7,   /* operand not an earlier node */
     JUNTREAK_FULL = 8,      /* 65th node or 9th rule */
@@ -182,10 +182,13 @@ enum {
 
 /*
  * A book is 1 to 255 records of 12 bytes. Byte 0: kind; 1: argument;
- * 2-3: lo; 4-5: hi; 6: left; 7: right; 8: next; 9-11: zero. Record 0 is the
- * head, all zero but its next. Kinds: 1 signal, 2 true, 3 false, 4 not,
- * 5 and, 6 or, 7 F (eventually), 8 G (always), 9 U (until), 10 R (release),
- * 11 rule (argument: name 1..255; left: watched formula).
+ * 2-3: lo; 4-5: hi; 6: left; 7: right; 8: next; 9: upper half of a rule's
+ * name, zero in every other record; 10-11: zero. Record 0 is the head, all zero
+ * but its next. Kinds: 1 signal, 2 true, 3 false, 4 not, 5 and, 6 or,
+ * 7 F (eventually), 8 G (always), 9 U (until), 10 R (release), 11 rule
+ * (argument: lower half of its name, which is 1..65535; left: watched formula).
+ * Earlier libraries, with names up to 255, refuse a book that has a larger one
+ * on its chain, with 4 if no check before finds a fault.
  *
  * A table is 546 bytes.
  *   0        count of nodes
@@ -257,7 +260,7 @@ uint32_t juntreak_read(const uint8_t *book, size_t n,
  *   depth, begins with the bytes up to and with the place of a 32, and a line
  *   that lacks only its byte 10 has 32 at n;
  * - then node by node, the rule last, with the first of 5 (signal above 31,
- *   name 0 or above 255), 6, 8, 9 and 10 that fits.
+ *   name 0 or above 65535), 6, 8, 9 and 10 that fits.
  * A place of 2^56 or more is told as 2^56 - 1. */
 uint64_t juntreak_read_text(const uint8_t *text, size_t n,
                             uint8_t table[JUNTREAK_TABLE_BYTES]);

@@ -54,6 +54,13 @@ impl Delay {
     }
 }
 
+/// The bytes that the name of a rule has in a book: those of document 02, request A11, or that of document 01, which was read before it.
+#[derive(Clone, Copy, Debug, PartialEq, Eq)]
+pub enum Names {
+    TwoBytes,
+    OneByte,
+}
+
 impl Table {
     /// The bytes of the C interface.
     pub fn bytes(&self) -> [u8; TABLE_BYTES] {
@@ -255,6 +262,11 @@ pub fn sound_under(delay: Delay, b: &[u8; TABLE_BYTES]) -> Option<Table> {
 
 /// The reading of a book: its table, or the number and the record of the refusal.
 pub fn read(book: &[u8]) -> Result<Table, (u32, u8)> {
+    read_under(Names::TwoBytes, book)
+}
+
+/// The same with names of either width.
+pub fn read_under(names: Names, book: &[u8]) -> Result<Table, (u32, u8)> {
     if book.is_empty() || book.len() % RECORD_BYTES != 0 || book.len() / RECORD_BYTES > MAX_RECORDS {
         return Err((LENGTH, 0));
     }
@@ -293,10 +305,15 @@ pub fn read(book: &[u8]) -> Result<Table, (u32, u8)> {
             11 => (true, true, false, false),
             _ => return refuse(FORM),
         };
-        if (!has_arg && arg != 0) || (!has_left && left != 0) || (!has_right && right != 0) || (!has_interval && (lo != 0 || hi != 0)) || e[9..] != [0, 0, 0] {
+        if (!has_arg && arg != 0) || (!has_left && left != 0) || (!has_right && right != 0) || (!has_interval && (lo != 0 || hi != 0)) {
             return refuse(FORM);
         }
-        if (kind == 1 && arg as usize > MAX_SIGNAL) || (kind == 11 && arg == 0) {
+        // Byte 9 is the upper half of a rule's name, if that has two bytes.
+        let (has_upper, name) = (kind == 11 && names == Names::TwoBytes, u16::from_le_bytes([arg, e[9]]));
+        if (!has_upper && e[9] != 0) || e[10..] != [0, 0] {
+            return refuse(FORM);
+        }
+        if (kind == 1 && arg as usize > MAX_SIGNAL) || (kind == 11 && name == 0) {
             return refuse(ARGUMENT);
         }
         if has_interval && (lo > hi || hi as usize > MAX_INTERVAL) {
@@ -310,10 +327,10 @@ pub fn read(book: &[u8]) -> Result<Table, (u32, u8)> {
             if t.rules.len() == MAX_RULES {
                 return refuse(FULL);
             }
-            if t.rules.iter().any(|q| q.name == arg as u16) {
+            if t.rules.iter().any(|q| q.name == name) {
                 return refuse(NAME);
             }
-            t.rules.push(Rule { name: arg as u16, watched: node_at(left) });
+            t.rules.push(Rule { name, watched: node_at(left) });
         } else {
             if t.nodes.len() == MAX_NODES {
                 return refuse(FULL);

@@ -1,12 +1,12 @@
 //! Random numbers, tables, books, typed rules and traces.
 use crate::header::limits::{
-    MAX_BLOCK, MAX_DELAY, MAX_DEPTH, MAX_NARROW_SEEN, MAX_NODES, MAX_RECORDS, MAX_RULES, MAX_SEEN, MAX_SIGNAL, NODE_COUNT_AT, RECORD_BYTES, RULE_COUNT_AT,
-    SESSION_BYTES, TABLE_BYTES,
+    MAX_BLOCK, MAX_DELAY, MAX_DEPTH, MAX_NAME, MAX_NARROW_SEEN, MAX_NODES, MAX_RECORDS, MAX_RULES, MAX_SEEN, MAX_SIGNAL, NODE_COUNT_AT, RECORD_BYTES,
+    RULE_COUNT_AT, SESSION_BYTES, TABLE_BYTES,
 };
 use crate::header::places::rule_at;
 use crate::model::{law_at, sound, sound_under, unused, Delay, Node, Rule, Table};
 use crate::typed::{depth, tokens, Line, Part};
-use crate::written::{node_record, rule_record, NEXT};
+use crate::written::{node_record, rule_record, LOWER, NEXT, UPPER};
 
 /// SplitMix64.
 pub struct Random(pub u64);
@@ -31,6 +31,38 @@ impl Random {
     pub fn pick<T: Copy>(&mut self, xs: &[T]) -> T {
         xs[self.below(xs.len() as u64) as usize]
     }
+}
+
+/// Names at the limits of one byte and of both; of some the lower halves are equal, of some the upper ones, and of some both are exchanged.
+pub const EDGE_NAMES: [u16; 18] = [1, 2, 7, 254, 255, 256, 257, 258, 263, 511, 512, 513, 519, 1792, 65_280, 65_281, 65_534, MAX_NAME as u16];
+
+/// A name, and now and then 0: any one, one of a byte, one at a limit, or one made of the halves of an earlier one.
+fn name_after(r: &mut Random, before: &[u16]) -> u16 {
+    let any = r.next() as u16;
+    match r.below(if before.is_empty() { 4 } else { 8 }) {
+        0 => any % 256,
+        1 => r.pick(&EDGE_NAMES),
+        2 | 3 => any,
+        4 => r.pick(before).swap_bytes(),
+        5 => r.pick(before) ^ r.pick(&[1, 0x80, 0x100, 0x8000]),
+        // Another upper half, another lower half.
+        6 => r.pick(before) & 0xff | any & 0xff00,
+        _ => r.pick(before) & 0xff00 | any & 0xff,
+    }
+}
+
+/// So many different names, in any order; one list of three has only names of one byte.
+pub fn names(r: &mut Random, count: usize) -> Vec<u16> {
+    let small = r.chance(3);
+    let mut names: Vec<u16> = vec![];
+    while names.len() < count {
+        let drawn = name_after(r, &names);
+        let name = if small { drawn % 256 } else { drawn };
+        if name != 0 && !names.contains(&name) {
+            names.push(name);
+        }
+    }
+    names
 }
 
 /// An interval whose upper limit is at most `room`, and now and then just that; small ones, single points and the whole room are frequent.
@@ -80,9 +112,7 @@ pub fn table(r: &mut Random, count: usize, longest: usize) -> Table {
         t.nodes.push(n);
     }
     let rules = 1 + r.below(MAX_RULES as u64) as usize;
-    let mut name = 0u16;
-    for i in 0..rules {
-        name += 1 + r.below(20) as u16;
+    for (i, name) in names(r, rules).into_iter().enumerate() {
         let watched = if i == 0 && !r.chance(4) { count - 1 } else { r.below(count as u64) as usize };
         t.rules.push(Rule { name, watched: watched as u8 });
     }
@@ -173,7 +203,7 @@ pub fn book(r: &mut Random, t: &Table) -> Vec<u8> {
     b
 }
 
-/// One damage to a book: a byte, a field, a link, the length.
+/// One damage to a book: a byte, a field, a link, the name of a rule, the length.
 pub fn damage_book(r: &mut Random, b: &mut Vec<u8>) {
     if b.is_empty() {
         return;
@@ -181,7 +211,7 @@ pub fn damage_book(r: &mut Random, b: &mut Vec<u8>) {
     let records = (b.len() / RECORD_BYTES).max(1);
     let record = r.below(records as u64) as usize;
     let at = |k: usize| (record * RECORD_BYTES + k).min(b.len() - 1);
-    match r.below(12) {
+    match r.below(14) {
         0 => {
             let i = r.below(b.len() as u64) as usize;
             b[i] = r.next() as u8;
@@ -215,10 +245,11 @@ pub fn damage_book(r: &mut Random, b: &mut Vec<u8>) {
             b[i] = r.pick(&[0, record as u8, (records - 1) as u8, records as u8, 255, 1]);
         }
         9 => {
-            let i = at(NEXT + 1 + r.below(3) as usize);
-            b[i] = 1;
+            let i = at(UPPER + r.below(3) as usize);
+            b[i] = r.pick(&[1, 1, 2, 255]);
         }
-        10 => {
+        10 | 11 => damage_name(r, b),
+        12 => {
             let n = r.below(b.len() as u64 + 1) as usize;
             b.truncate(n);
         }
@@ -226,6 +257,23 @@ pub fn damage_book(r: &mut Random, b: &mut Vec<u8>) {
             let n = r.below(30) as usize;
             b.extend(std::iter::repeat(0).take(n));
         }
+    }
+}
+
+/// One half of a rule's name, or both, changed to those of another rule or to others; on the chain or not.
+pub fn damage_name(r: &mut Random, b: &mut [u8]) {
+    let rules: Vec<usize> = (0..b.len() / RECORD_BYTES).map(|i| i * RECORD_BYTES).filter(|at| b[*at] == 11).collect();
+    if rules.is_empty() {
+        return;
+    }
+    let (at, from) = (r.pick(&rules), r.pick(&rules));
+    let [lower, upper] = if r.chance(2) { [b[from + LOWER], b[from + UPPER]] } else { name_after(r, &[]).to_le_bytes() };
+    let half = r.below(3);
+    if half != 0 {
+        b[at + LOWER] = if r.chance(8) { 0 } else { lower };
+    }
+    if half != 1 {
+        b[at + UPPER] = if r.chance(8) { 0 } else { upper };
     }
 }
 
@@ -423,9 +471,7 @@ pub fn redundant(r: &mut Random, count: usize, longest: usize) -> Table {
         t.nodes.push(n);
     }
     let rules = 1 + r.below(MAX_RULES as u64) as usize;
-    let mut name = 0;
-    for _ in 0..rules {
-        name += 1 + r.below(20) as u16;
+    for name in names(r, rules) {
         let watched = if r.chance(2) { count - 1 - r.below(count.min(3) as u64) as usize } else { r.below(count as u64) as usize };
         t.rules.push(Rule { name, watched: watched as u8 });
     }
@@ -493,11 +539,8 @@ pub fn law_free(r: &mut Random, count: usize, longest: usize) -> Table {
         while watched.len() < MAX_RULES && r.chance(2) {
             watched.push(r.below(count as u64) as usize);
         }
-        let mut name = 0;
-        for w in watched {
-            name += 1 + r.below(20) as u16;
-            t.rules.push(Rule { name, watched: w as u8 });
-        }
+        let names = names(r, watched.len()).into_iter();
+        t.rules = names.zip(watched).map(|(name, watched)| Rule { name, watched: watched as u8 }).collect();
         return t;
     }
 }
@@ -531,9 +574,9 @@ fn formula(r: &mut Random, count: usize, room: u16, longest: u16) -> Vec<Part> {
 
 /// Rules whose formulas have these counts of nodes, can be printed, and have delays of at most `longest`.
 pub fn lines(r: &mut Random, counts: &[usize], longest: usize) -> Vec<Line> {
-    let mut lines: Vec<Line> = vec![];
+    let (names, mut lines) = (names(r, counts.len()), vec![]);
     while lines.len() < counts.len() {
-        let name = lines.last().map_or(0, |line| line.name) + 1 + r.below(31) as u32;
+        let name = names[lines.len()] as u32;
         let line = Line { name, formula: formula(r, counts[lines.len()], longest as u16, longest as u16) };
         if depth(&tokens(&line, || false)) <= MAX_DEPTH {
             lines.push(line);

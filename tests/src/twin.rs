@@ -2,8 +2,8 @@
 //! and checks the table, computes the nodes that are needed on 64-bit words in registers of 80, and clears the scratch. Its sessions
 //! parse and check the session's bytes at each call, refuse by the same numbers, and keep the history.
 use crate::header::limits::{
-    CLOSE_WORDS, FEED_WORDS, HISTORY_WORDS, MAX_BLOCK, MAX_DELAY, MAX_INTERVAL, MAX_NAME, MAX_NODES, MAX_RULES, MAX_SIGNAL, MAX_TRACE, NODE_COUNT_AT,
-    REGISTER_WORDS, RULE_COUNT_AT, SCRATCH_WORDS, SESSION_BYTES, TABLE_BYTES,
+    CLOSE_WORDS, FEED_WORDS, HISTORY_WORDS, MAX_BLOCK, MAX_DELAY, MAX_INTERVAL, MAX_NODES, MAX_RULES, MAX_SIGNAL, MAX_TRACE, NODE_COUNT_AT, REGISTER_WORDS,
+    RULE_COUNT_AT, SCRATCH_WORDS, SESSION_BYTES, TABLE_BYTES,
 };
 use crate::header::places::{node_at, rule_at, RULE_NUMBER_AT, SEEN_AT};
 use crate::header::refusals::{ABSENT, BUFFER, OK, SEEN, STATES, UNSOUND};
@@ -79,7 +79,7 @@ fn sound(t: &Parsed) -> Option<[u32; MAX_NODES]> {
             if *r != NO_RULE {
                 return None;
             }
-        } else if r.name == 0 || r.name > MAX_NAME as u16 || r.watched as usize >= t.count || t.rules[..i].iter().any(|q| q.name == r.name) {
+        } else if r.name == 0 || r.watched as usize >= t.count || t.rules[..i].iter().any(|q| q.name == r.name) {
             return None;
         }
     }

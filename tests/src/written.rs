@@ -3,11 +3,13 @@ use crate::header::limits::{RECORD_BYTES, TABLE_BYTES};
 use crate::header::refusals::{OK, OUTPUT, UNSOUND};
 use crate::model::{sound, Node, Rule, Table};
 
-/// Kind, argument, lo (2), hi (2), left, right, next, zeros (3).
+/// Kind, argument, lo (2), hi (2), left, right, next, upper half of a rule's name, zeros (2).
 pub type Record = [u8; RECORD_BYTES];
 
-/// Where next stands in a record.
+/// Where next stands in a record, and the two halves of a rule's name.
 pub const NEXT: usize = 8;
+pub const LOWER: usize = 1;
+pub const UPPER: usize = 9;
 
 /// The book of document 01's worked example.
 pub const WORKED: [u8; 4 * RECORD_BYTES] = [
@@ -27,7 +29,8 @@ pub fn node_record(n: &Node, record: impl Fn(u8) -> u8) -> Record {
 
 /// The record of a rule, its next still 0.
 pub fn rule_record(r: &Rule, record: impl Fn(u8) -> u8) -> Record {
-    [11, u8::try_from(r.name).unwrap(), 0, 0, 0, 0, record(r.watched), 0, 0, 0, 0, 0]
+    let [lower, upper] = r.name.to_le_bytes();
+    [11, lower, 0, 0, 0, 0, record(r.watched), 0, 0, upper, 0, 0]
 }
 
 /// The book of a head and these records, chained 1, 2, 3 up.

@@ -26,7 +26,7 @@ const VALUES: [(&str, u64); 70] = [
     ("MAX_NODES", 64),
     ("MAX_RULES", 8),
     ("MAX_SIGNAL", 31),
-    ("MAX_NAME", 255),
+    ("MAX_NAME", 65_535),
     ("MAX_INTERVAL", 4095),
     ("MAX_PARTS", 12),
     ("MAX_DELAY", 4095),

@@ -348,7 +348,7 @@ fn first_no(b: &StatusBytes) -> u64 {
 fn random_lists_of_calls_and_writes() {
     let mut r = Random(121);
     let (mut counts, mut seen) = (Counts::none(), Seen::default());
-    for _ in 0..1_000 {
+    for _ in 0..1_600 {
         let mut status = Status::zeros(&mut r);
         let mut missions = vec![Mission::left_behind(&mut r)];
         let rare = r.pick(&[1, 2, 8]);

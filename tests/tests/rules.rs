@@ -1,6 +1,6 @@
 //! The program rules: typed rules on standard input, and their book on standard output or a message on standard error, against `typed`,
 //! `written` and `message`, and against messages that are written out in full.
-use juntreak_tests::header::limits::{MAX_DELAY, MAX_DEPTH, MAX_INTERVAL, MAX_NAME, MAX_NODES, MAX_RULES, MAX_SIGNAL, WRITTEN_BYTES};
+use juntreak_tests::header::limits::{MAX_DELAY, MAX_DEPTH, MAX_INTERVAL, MAX_NAME, MAX_NODES, MAX_RULES, MAX_SIGNAL, RECORD_BYTES, WRITTEN_BYTES};
 use juntreak_tests::header::refusals::{ARGUMENT, DEEP, FULL, INTERVAL, LONG, NAME, OK, SYNTAX};
 use juntreak_tests::header::NUMBERS;
 use juntreak_tests::message::{message, MAX_TEXT, TOO_LONG};
@@ -9,7 +9,7 @@ use juntreak_tests::program::expected;
 use juntreak_tests::random::{any_lines, text, trace, Random, LINE_BYTES};
 use juntreak_tests::spawn::{full, run, run_in_chunks, same_lines, Ended, Running};
 use juntreak_tests::typed::{self, repeated, Line, Part};
-use juntreak_tests::written::{self, WORKED};
+use juntreak_tests::written::{self, LOWER, UPPER, WORKED};
 use std::fs::File;
 use std::io::Write;
 use std::os::fd::OwnedFd;
@@ -97,10 +97,24 @@ fn worked_example() {
 
 #[test]
 fn refused_with_5() {
-    let sentence = "A signal is above s31, or the rule's name is 0 or above 255.";
+    let sentence = "A signal is above s31, or the rule's name is 0 or above 65535.";
     refused("7: s32\n", &["text 5 line 1", sentence]);
-    refused("7: s31\n256: s31\n", &["text 5 line 2", sentence]);
+    refused("7: s31\n65536: s31\n", &["text 5 line 2", sentence]);
     refused("1:s0\n2:s0\n0:s0\n", &["text 5 line 3", sentence]);
+    refused("65535:s0\n256:s0\n18446744073709551623:s0\n", &["text 5 line 3", sentence]);
+}
+
+/// The book of the worked example under other names: bytes 1 and 9 of its last record.
+#[test]
+fn names_of_two_bytes() {
+    for (name, lower, upper) in [(255, 255, 0), (256, 0, 1), (263, 7, 1), (10_000, 16, 39), (65_280, 0, 255), (65_535, 255, 255)] {
+        let mut book = WORKED;
+        (book[3 * RECORD_BYTES + LOWER], book[3 * RECORD_BYTES + UPPER]) = (lower, upper);
+        let line = format!("{name}: F[1,3] s0\n");
+        gave(run(program(), line.as_bytes()), &book, "", line.as_bytes());
+        assert_eq!(compare(&line), OK);
+    }
+    assert_eq!(compare("65535: s0\n256: s1\n257: s2\n7: s3\n263: s4\n519: s5\n258: s6\n513: s7\n"), OK);
 }
 
 #[test]
@@ -136,6 +150,7 @@ fn refused_with_10() {
     let sentence = "An earlier line has the same name.";
     refused("7: s0\n7: s0\n", &["text 10 line 2", sentence]);
     refused("7: s0\n8: s0\n9: s1\n8: s2\n", &["text 10 line 4", sentence]);
+    refused("65535: s0\n263: s0\n7: s1\n263: s2\n", &["text 10 line 4", sentence]);
 }
 
 #[test]
@@ -300,9 +315,9 @@ fn unprintable_bytes() {
 fn break_limit(r: &mut Random, lines: &mut Vec<Line>) {
     let (at, window) = (r.below(lines.len() as u64) as usize, |lo: usize, hi: usize| Part { kind: 7, arg: 0, lo: lo as u32, hi: hi as u32 });
     let (name, formula) = (lines[r.below(lines.len() as u64) as usize].name, &mut lines[at].formula);
-    match r.below(8) {
-        0 => lines[at].name = r.pick(&[0, MAX_NAME as u32 + 1, 65_537, u32::MAX]),
-        1 => lines[at].name = name,
+    match r.below(9) {
+        0 => lines[at].name = r.pick(&[0, MAX_NAME as u32 + 1, 65_543, 1_000_000, u32::MAX]),
+        1 | 8 => lines[at].name = name,
         2 => formula.iter_mut().filter(|part| part.kind == 1).for_each(|part| part.arg += MAX_SIGNAL as u32 + 1),
         3 => formula.push(window(5, 4)),
         4 => formula.push(window(0, MAX_INTERVAL + 1)),

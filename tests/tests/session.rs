@@ -1,7 +1,8 @@
 //! Sessions: every call against the model, and the joined verdicts against the naive evaluator.
 use juntreak_tests::compared::{bits, close, feed, lengths};
 use juntreak_tests::header::limits::{
-    CLOSE_WORDS, FEED_WORDS, HISTORY_WORDS, MAX_BLOCK, MAX_DELAY, MAX_NARROW_SEEN, MAX_NODES, MAX_RULES, MAX_SEEN, SCRATCH_WORDS, SESSION_BYTES, TABLE_BYTES,
+    CLOSE_WORDS, FEED_WORDS, HISTORY_WORDS, MAX_BLOCK, MAX_DELAY, MAX_NAME, MAX_NARROW_SEEN, MAX_NODES, MAX_RULES, MAX_SEEN, SCRATCH_WORDS, SESSION_BYTES,
+    TABLE_BYTES,
 };
 use juntreak_tests::header::places::{rule_at, RULE_NUMBER_AT, SEEN_AT};
 use juntreak_tests::header::refusals::{ABSENT, BUFFER, OK, SEEN, STATES, UNSOUND};
@@ -253,8 +254,8 @@ fn worked() -> Table {
 fn limits() {
     let mut r = Random(34);
     let (last, block) = (MAX_SEEN as u64, MAX_BLOCK as u64);
-    let nameless = Table { rules: vec![Rule { name: 0, watched: 1 }], ..worked() };
-    let (fit, absent, unsound) = ((worked(), 0), (worked(), 1), (nameless, 0));
+    let named = |name| Table { rules: vec![Rule { name, watched: 1 }], ..worked() };
+    let (fit, large, absent, unsound) = ((worked(), 0), (named(MAX_NAME as u16), 0), (worked(), 1), (named(0), 0));
     for ((table, rule), seen, k, wanted) in [
         (&fit, last, 0, OK),
         (&fit, last, 1, SEEN),
@@ -267,6 +268,8 @@ fn limits() {
         (&fit, MAX_NARROW_SEEN as u64, MAX_BLOCK, OK),
         (&fit, MAX_NARROW_SEEN as u64 + 1, MAX_BLOCK, OK),
         (&fit, 0, MAX_BLOCK, OK),
+        (&large, 0, MAX_BLOCK, OK),
+        (&large, last, 1, SEEN),
         (&fit, 0, MAX_BLOCK + 1, STATES),
         (&fit, last, MAX_BLOCK + 1, STATES),
         (&absent, 0, 0, UNSOUND),

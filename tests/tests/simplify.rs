@@ -40,7 +40,7 @@ fn compare(r: &mut Random, t: &Table) -> Table {
 fn random_redundant_tables() {
     let mut r = Random(21);
     let rounds = 24_000;
-    let (mut before, mut after, mut full, mut new) = (0usize, 0usize, 0usize, 0usize);
+    let (mut before, mut after, mut full, mut new, mut large) = (0usize, 0usize, 0usize, 0usize, 0usize);
     for _ in 0..rounds {
         let count = 1 + r.below(MAX_NODES as u64) as usize;
         let count = r.pick(&[count, count, count.min(10), count.min(10), MAX_NODES]);
@@ -52,8 +52,9 @@ fn random_redundant_tables() {
         after += s.nodes.len();
         full += (count == MAX_NODES) as usize;
         new += model::sound_under(Delay::Old, &t.bytes()).is_none() as usize;
+        large += t.rules.iter().any(|q| q.name > 255) as usize;
     }
-    assert!(full > 2_000 && new > 200, "{full} {new}");
+    assert!(full > 2_000 && new > 200 && large > 10_000, "{full} {new} {large}");
     let mean = |x: usize| x as f64 / rounds as f64;
     println!("nodes on average: {:.2} before, {:.2} after, {:.2} fewer ({:.1} %)", mean(before), mean(after), mean(before - after), 100.0 * (before - after) as f64 / before as f64);
 }

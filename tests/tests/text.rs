@@ -1,10 +1,11 @@
 //! Rules typed as text, against the reader of `typed`, the recognizer of `viable`, and answers worked by hand.
-use juntreak_tests::header::limits::{MAX_DELAY, MAX_DEPTH, MAX_NODES, MAX_RULES, MAX_TRACE, SCRATCH_WORDS, TABLE_BYTES};
+use juntreak_tests::header::limits::{MAX_DELAY, MAX_DEPTH, MAX_NAME, MAX_NODES, MAX_RULES, MAX_TRACE, SCRATCH_WORDS, TABLE_BYTES, WRITTEN_BYTES};
+use juntreak_tests::header::places::rule_at;
 use juntreak_tests::header::refusals::{ARGUMENT, DEEP, FULL, INTERVAL, LONG, NAME, OK, RULELESS, SYNTAX};
 use juntreak_tests::header::{whole_words, NUMBERS};
-use juntreak_tests::library::{read, read_text, verdicts, TableBytes};
+use juntreak_tests::library::{read, read_text, verdicts, write, TableBytes};
 use juntreak_tests::plain_text;
-use juntreak_tests::random::{any_lines, book, lines, text, trace, Random, LINE_BYTES};
+use juntreak_tests::random::{any_lines, book, lines, text, trace, Random, EDGE_NAMES, LINE_BYTES};
 use juntreak_tests::same;
 use juntreak_tests::typed::{self, repeated, Refusal};
 use juntreak_tests::viable::Recognizer;
@@ -53,7 +54,7 @@ fn each_seen(seen: &[u32; NUMBERS], numbers: &[u32]) {
 #[test]
 fn printed_rules_are_read_back() {
     let mut r = Random(51);
-    let (mut full, mut bracketed) = (0, 0);
+    let (mut full, mut bracketed, mut digits) = (0, 0, [0u32; 6]);
     for round in 0..20_000 {
         let typed = any_lines(&mut r, MAX_RULES);
         let (table, text) = (typed::table(&typed), text(&mut r, &typed));
@@ -63,8 +64,10 @@ fn printed_rules_are_read_back() {
         same(&format!("table of {}", shown(&text)), &bytes, &table.bytes());
         full += (table.nodes.len() == MAX_NODES) as u32;
         bracketed += text.contains(&b'(') as u32;
+        typed.iter().for_each(|line| digits[line.name.to_string().len()] += 1);
     }
     assert!(full > 1_000 && bracketed > 10_000, "{full} {bracketed}");
+    assert!(digits[1..].iter().all(|times| *times > 500), "{digits:?}");
 }
 
 fn damaged(text: &[u8], seen: &mut [u32; NUMBERS]) {
@@ -95,6 +98,7 @@ fn every_byte_damaged() {
         damaged(nested(MAX_DEPTH - formula.contains('(') as usize, formula).as_bytes(), &mut seen);
     }
     damaged(b"25:s3\n26:s31&s30\n255:true\n2:false\n", &mut seen);
+    damaged(b"6553:s3\n65535:s31&s30\n655:true\n65534:false\n6:s0\n", &mut seen);
     damaged(b"1:F[0,1]G[0,4094]s0\n2:s0 U[0,95](s1 R[0,4000]s2)\n", &mut seen);
     damaged(b"1:(F[0,96]s0)U[0,4000]G[0,95]s1\n2:(F[0,4095]s0)R[40,40]s2\n", &mut seen);
     each_seen(&seen, &[OK, ARGUMENT, INTERVAL, FULL, LONG, NAME, SYNTAX, DEEP]);
@@ -115,8 +119,10 @@ fn the_plain_reader_agrees() {
     for _ in 0..60_000 {
         let mut typed = any_lines(&mut r, MAX_RULES);
         if r.chance(20) {
-            typed.last_mut().unwrap().name = 1;
-            typed[0].name = 1;
+            typed.last_mut().unwrap().name = typed[0].name;
+        }
+        if r.chance(20) {
+            typed[0].name += r.pick(&[MAX_NAME as u32, MAX_NAME as u32 + 1, 1 << 20, u32::MAX - MAX_NAME as u32]);
         }
         let mut text = match r.below(10) {
             0 => format!("1:{}\n", chained(&mut r, MAX_DEPTH + 1)).into_bytes(),
@@ -312,6 +318,11 @@ fn lines_that_are_fit() {
     let fit = |text: &str| answers(text, (OK, 0));
     fit("1:s0\n");
     fit("255:s31\n");
+    fit("256:s31\n");
+    fit("65535:s31\n");
+    fit("  65535  :  s0  \n  65534:s0\n");
+    // Names with one half in common, and with both exchanged.
+    fit("7:s0\n263:s0\n519:s0\n256:s0\n257:s0\n258:s0\n513:s0\n");
     fit("  1  :  s0  \n");
     fit("1:!s0U[0,1]F[0,1]s1\n");
     fit("1:(s0&s1)U[0,1](s0|s1)\n");
@@ -354,8 +365,12 @@ fn every_number() {
     for signal in ["32", "33", "255", "256", "287", "4294967296", "18446744073709551616", &digits] {
         answers(format!("1:s0\n2:s{signal}\n"), (ARGUMENT, 2));
     }
-    for name in ["0", "256", "257", "511", "65537", "4294967297", "18446744073709551617", &digits] {
+    // Above 65535, and by 2^16, 2^20, 2^32 and 2^64 above names that are fit; 1000000 and its neighbours.
+    let names = ["65536", "65537", "65543", "65791", "65792", "99999", "100000", "131071", "131072", "655350", "999999", "1000000", "1000001", "1048583"];
+    let longer = ["4294967295", "4294967296", "4294967303", "18446744073709551615", "18446744073709551616", "18446744073709551623", &digits];
+    for name in ["0"].into_iter().chain(names).chain(longer) {
         answers(format!("{name}:s0\n"), (ARGUMENT, 1));
+        answers(format!("7:s0\n256:s1\n{name}:s0\n263:s0\n"), (ARGUMENT, 3));
     }
     for interval in ["1,0", "4095,4094", "0,4096", "4096,4096", "0,65536", "65536,0", "65536,65537", "4294967296,1", "0,4294967296"] {
         for formula in ["F[]s0", "G[]s0", "s0U[]s1", "s0R[]s1"] {
@@ -371,6 +386,9 @@ fn every_number() {
     answers("1:(F[0,4095]F[0,1]s0)U[0,0]s1\n", (LONG, 1));
     answers("1:s1R[0,4001]F[0,95]s0\n", (LONG, 1));
     answers("7:s0\n8:s0\n7:s0\n", (NAME, 3));
+    answers("256:s0\n257:s0\n512:s0\n256:s0\n", (NAME, 4));
+    answers("65535:s0\n65535:s0\n", (NAME, 2));
+    answers("513:s0\n258:s0\n7:s0\n263:s0\n258:s0\n", (NAME, 5));
     answers("1:s0\n2:s1\n3:s2\n4:s3\n5:s4\n6:s5\n7:s6\n8:s7\n9:s8\n", (FULL, 9));
 }
 
@@ -470,11 +488,18 @@ fn order_of_the_checks() {
     // The rule last: 5, 8, 10.
     answers("0:s32\n", (ARGUMENT, 1));
     answers("0:F[1,0]s0\n", (INTERVAL, 1));
-    answers("256:F[0,4095]F[0,1]s0\n", (LONG, 1));
+    answers("65536:s32\n", (ARGUMENT, 1));
+    answers("65536:F[1,0]s0\n", (INTERVAL, 1));
+    answers("65536:F[0,4095]F[0,1]s0\n", (LONG, 1));
+    answers(of_nodes(65_536, MAX_NODES + 1, "!"), (FULL, 1));
+    answers("18446744073709551623:s0&F[1,0]s0\n", (INTERVAL, 1));
+    answers("7:s0\n65543:F[1,0]s0\n", (INTERVAL, 2));
     answers("1:s0\n1:F[1,0]s0\n", (INTERVAL, 2));
     let rules: String = (1..=MAX_RULES).map(|name| format!("{name}:s0\n")).collect();
     answers(rules.clone() + "0:s0\n", (ARGUMENT, 9));
+    answers(rules.clone() + "65536:s0\n", (ARGUMENT, 9));
     answers(rules.clone() + "1:s0\n", (FULL, 9));
+    answers(rules.clone() + "257:s0\n", (FULL, 9));
     answers(rules.clone() + "9:s32\n", (ARGUMENT, 9));
     answers(rules.clone() + "9:s0", (SYNTAX, rules.len() + 4));
     answers(of_nodes(1, MAX_NODES, "!") + "0:s0\n", (FULL, 2));
@@ -560,6 +585,8 @@ fn long_numbers() {
     answers(format!("1:s{nines}\n"), (ARGUMENT, 1));
     answers(format!("1:s1{zeros}\n"), (ARGUMENT, 1));
     answers(format!("{nines}:s0\n"), (ARGUMENT, 1));
+    answers(format!("1{zeros}:s0\n"), (ARGUMENT, 1));
+    answers(format!("65535{zeros}:s0\n"), (ARGUMENT, 1));
     answers(format!("{nines}:F[1,0]s0\n"), (INTERVAL, 1));
     answers(format!("1:F[{nines},{nines}]s0\n"), (INTERVAL, 1));
     answers(format!("1:G[0,1{zeros}]s0\n"), (INTERVAL, 1));
@@ -571,6 +598,39 @@ fn long_numbers() {
     answers(format!("1:s{nines} 1"), (SYNTAX, 3 + MANY + 1));
 }
 
+/// The table of a text through its book: what is written of it, and read again.
+fn through_the_book(text: &[u8]) -> TableBytes {
+    let (mut table, mut again, mut out) = ([0; TABLE_BYTES], [0xaa; TABLE_BYTES], [0; WRITTEN_BYTES]);
+    assert_eq!(read_text(text, &mut table), (OK, 0), "{}", shown(text));
+    let (number, length) = write(&table, &mut out);
+    assert_eq!((number, read(&out[..length], &mut again)), (OK, (OK, 0)), "{}", shown(text));
+    same(&format!("table of {}", shown(text)), &again, &table);
+    again
+}
+
+/// Each name, and each number above them up to twice as large.
+#[test]
+fn every_name() {
+    for name in 1..=MAX_NAME {
+        let text = format!("{name}:s0\n");
+        assert_eq!(compare(text.as_bytes()), (OK, 0), "{name}");
+        assert_eq!(through_the_book(text.as_bytes())[rule_at(0)..rule_at(1)], [name as u8, (name >> 8) as u8, 0, 0]);
+    }
+    for name in MAX_NAME + 1..=2 * (MAX_NAME + 1) {
+        assert_eq!(compare(format!("{name}:s0\n").as_bytes()), (ARGUMENT, 1), "{name}");
+    }
+}
+
+/// Two lines with the same name are refused, and with any other two names they are not.
+#[test]
+fn names_used_twice() {
+    for first in EDGE_NAMES {
+        for second in EDGE_NAMES {
+            answers(format!("{first}:s0\n{second}:s0\n"), if first == second { (NAME, 2) } else { (OK, 0) });
+        }
+    }
+}
+
 #[test]
 fn a_typed_table_gives_the_books_verdicts() {
     let mut r = Random(54);
@@ -579,8 +639,11 @@ fn a_typed_table_gives_the_books_verdicts() {
         let typed = any_lines(&mut r, MAX_RULES);
         let table = typed::table(&typed);
         let (mut of_text, mut of_book) = ([0; TABLE_BYTES], [0; TABLE_BYTES]);
-        assert_eq!(read_text(&text(&mut r, &typed), &mut of_text), (OK, 0));
+        let text = text(&mut r, &typed);
+        assert_eq!(read_text(&text, &mut of_text), (OK, 0));
         assert_eq!(read(&book(&mut r, &table), &mut of_book), (OK, 0));
+        same("table of the book", &of_book, &of_text);
+        same("table through the book", &through_the_book(&text), &of_text);
         let n = r.pick(&[1, 64, 200, MAX_TRACE]);
         let states = trace(&mut r, n);
         for rule in 0..typed.len() {

@@ -7,7 +7,7 @@ use juntreak_tests::place::{watch_in, Folder};
 use juntreak_tests::program::expected;
 use juntreak_tests::random::{book, damage_book, redundant, table, trace, Random};
 use juntreak_tests::spawn::{full, run, run_in_chunks, same_lines, Running};
-use juntreak_tests::written::{NEXT, WORKED};
+use juntreak_tests::written::{LOWER, NEXT, UPPER, WORKED};
 use std::fs::File;
 use std::io::Write;
 use std::os::unix::process::ExitStatusExt;
@@ -154,16 +154,14 @@ fn random_length(r: &mut Random) -> usize {
     }
 }
 
-/// A random table whose first rule has any name.
 fn random_table(r: &mut Random) -> Table {
     let count = if r.chance(30) { MAX_NODES } else { 1 + r.below(12) as usize };
     let longest = r.pick(&[MAX_DELAY, MAX_DELAY, 1100, 300, 9, 0]);
-    let mut t = if r.chance(2) { redundant(r, count, longest) } else { table(r, count, longest) };
-    let shift = r.below(MAX_NAME as u64) as u16;
-    for rule in &mut t.rules {
-        rule.name = (rule.name + shift) % MAX_NAME as u16 + 1;
+    if r.chance(2) {
+        redundant(r, count, longest)
+    } else {
+        table(r, count, longest)
     }
-    t
 }
 
 /// Lines of states; one in three inputs has one or two bad lines, and one in three lacks its last byte.
@@ -304,7 +302,7 @@ fn first_rule_only() {
     let mut r = Random(45);
     let input = random_text(&mut r, 2000);
     let nodes = vec![SIGNAL, Node { arg: 1, ..SIGNAL }, finally(40, 0), finally(1500, 1)];
-    let all = [(9, 2), (255, 1), (1, 0), (100, 3), (99, 2), (10, 3), (2, 0), (254, 1)];
+    let all = [(9, 2), (255, 1), (1, 0), (256, 3), (65_535, 2), (265, 3), (258, 0), (513, 1)];
     for first in 0..all.len() {
         let mut rules = all;
         rules.rotate_left(first);
@@ -312,6 +310,24 @@ fn first_rule_only() {
         assert!(alone.starts_with(format!("{} 0 ", rules[0].0).as_bytes()));
         assert_eq!(compare(&book_of(nodes.clone(), &rules), &input), alone);
     }
+}
+
+/// Names of one to five digits, in blocks that are full and in ticks of up to six digits.
+#[test]
+fn names_of_every_length() {
+    let mut r = Random(54);
+    for name in [1, 9, 10, 99, 100, 255, 256, 257, 999, 1_000, 9_999, 10_000, 12_345, 65_280, 65_534, 65_535] {
+        for (delay, lines) in [(0, 3), (3, 1_024), (1_000, 3_073), (5, 11_000)] {
+            let input = random_text(&mut r, lines);
+            let want = compare(&finally_book(name, delay), &input);
+            let rows: Vec<&[u8]> = want.split_inclusive(|b| *b == 10).collect();
+            assert_eq!(rows.len(), lines);
+            assert!(rows.iter().enumerate().all(|(tick, row)| row.starts_with(format!("{name} {tick} ").as_bytes())), "{name}");
+        }
+    }
+    let input = random_text(&mut r, 101_000);
+    let want = compare(&finally_book(MAX_NAME as u16, 1), &input);
+    assert!(want.split_inclusive(|b| *b == 10).next_back().is_some_and(|row| row.starts_with(b"65535 100999 ")));
 }
 
 /// Each number of a refused book, with records of one to three digits.
@@ -329,13 +345,16 @@ fn refused_books() {
         (HEAD, head(0, 1)),
         (LINK, head(NEXT, 4)),
         (FORM, head(12, 12)),
+        (FORM, head(RECORD_BYTES + UPPER, 1)),
         (ARGUMENT, head(13, MAX_SIGNAL as u8 + 1)),
+        (ARGUMENT, head(3 * RECORD_BYTES + LOWER, 0)),
         (INTERVAL, head(29, 16)),
         (OPERAND, head(30, 3)),
         (FULL, book_of(vec![SIGNAL; MAX_NODES + 1], &[(1, 0)])),
         (FULL, book_of(vec![SIGNAL], &rules(MAX_RULES + 1))),
         (LONG, long(MAX_DELAY as u16)),
         (NAME, book_of(vec![SIGNAL], &[(3, 0), (4, 0), (3, 0)])),
+        (NAME, book_of(vec![SIGNAL], &[(259, 0), (3, 0), (259, 0)])),
         (RULELESS, book_of(vec![SIGNAL], &[])),
     ];
     for (number, b) in books {
@@ -423,10 +442,10 @@ fn input_from_a_file() {
 fn a_million_lines() {
     let mut r = Random(49);
     let until = Node { kind: 9, arg: 0, lo: 2, hi: 1000, left: 1, right: 0 };
-    let b = book_of(vec![SIGNAL, Node { arg: 1, ..SIGNAL }, until], &[(123, 2)]);
+    let b = book_of(vec![SIGNAL, Node { arg: 1, ..SIGNAL }, until], &[(65_535, 2)]);
     let input = random_text(&mut r, 1_000_000);
     let want = compare(&b, &input);
-    assert!(want.windows(9).rev().take(20).any(|w| w == b"23 999999"));
+    assert!(want.windows(12).rev().take(20).any(|w| w == b"65535 999999"));
     let late = with_line(&input, 999_990, b"9999999999");
     assert!(compare(&b, &late).ends_with(b"bad line 999991\n"));
 }

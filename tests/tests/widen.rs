@@ -99,7 +99,7 @@ fn every_bit() {
     let mut numbers = [0u32; NUMBERS];
     for _ in 0..12 {
         let mut t = any_table(&mut r, MAX_NODES, MAX_DELAY);
-        t.rules = (0..MAX_RULES as u16).map(|i| Rule { name: 200 + i, watched: MAX_NODES as u8 - 1 }).collect();
+        t.rules = (0..MAX_RULES as u16).map(|i| Rule { name: 252 + i, watched: MAX_NODES as u8 - 1 }).collect();
         let rule = r.below(MAX_RULES as u64) as u32;
         let narrow = forged(t.bytes(), rule, r.next() as u32 as u64);
         assert_eq!(widened(&mut r, &narrow), OK);
@@ -133,7 +133,7 @@ fn the_edges_of_soundness() {
     let narrow = forged(worked().bytes(), 1, LAST);
     let (p, f, g, free, last) = (node_at(0), node_at(1), node_at(2), node_at(3), node_at(MAX_NODES) - 1);
     let (first, second, third) = (rule_at(0), rule_at(1), rule_at(2));
-    let cases: [(&[(usize, u8)], u32); 38] = [
+    let cases: [(&[(usize, u8)], u32); 42] = [
         (&[(p + 1, 31)], OK),
         (&[(p + 1, 32)], UNSOUND),
         (&[(p, 3)], OK),
@@ -163,9 +163,13 @@ fn the_edges_of_soundness() {
         (&[(RULE_COUNT_AT, 3)], UNSOUND),
         (&[(RULE_COUNT_AT, 9)], UNSOUND),
         (&[(first, 255)], OK),
-        (&[(first, 0), (first + 1, 1)], UNSOUND),
+        (&[(first, 0), (first + 1, 1)], OK),
+        (&[(first, 255), (first + 1, 255)], OK),
         (&[(first, 0)], UNSOUND),
         (&[(first, 7)], UNSOUND),
+        (&[(first, 7), (first + 1, 1)], OK),
+        (&[(first, 7), (first + 1, 1), (second + 1, 2)], OK),
+        (&[(first, 7), (first + 1, 1), (second + 1, 1)], UNSOUND),
         (&[(second + 2, 3)], UNSOUND),
         (&[(second + 3, 1)], UNSOUND),
         (&[(third, 1)], UNSOUND),

@@ -9,10 +9,10 @@ use juntreak_tests::header::NUMBERS;
 use juntreak_tests::library::{check_book, close, feed, open, read, read_text, simplify, write, TableBytes};
 use juntreak_tests::model::{self, sound, Node, Rule, Table};
 use juntreak_tests::random::{
-    any_table, asked, book, bytes, damage, damaged_table, law_free, lines, redundant, short_words, table, text, trace, words, Random,
+    any_table, asked, book, bytes, damage, damaged_table, law_free, lines, names, redundant, short_words, table, text, trace, words, Random, EDGE_NAMES,
 };
 use juntreak_tests::typed;
-use juntreak_tests::written::{self, Record, NEXT, WORKED};
+use juntreak_tests::written::{self, Record, LOWER, NEXT, UPPER, WORKED};
 use juntreak_tests::{only_read, same};
 
 /// Bytes before and behind the output that are not lent, more than any book has.
@@ -67,11 +67,9 @@ fn compare(r: &mut Random, table: &TableBytes) -> Vec<u8> {
     book
 }
 
-/// So many rules, with any names in any order, that watch any nodes.
+/// So many rules that watch any nodes.
 fn rules(r: &mut Random, count: usize, nodes: usize) -> Vec<Rule> {
-    let mut names: Vec<u16> = (1..=MAX_NAME as u16).collect();
-    let mut name = |r: &mut Random| names.swap_remove(r.below(names.len() as u64) as usize);
-    (0..count).map(|_| Rule { name: name(r), watched: r.below(nodes as u64) as u8 }).collect()
+    names(r, count).into_iter().map(|name| Rule { name, watched: r.below(nodes as u64) as u8 }).collect()
 }
 
 /// A sound table of so many nodes and rules.
@@ -96,18 +94,23 @@ fn random_table(r: &mut Random) -> Table {
 #[test]
 fn random_tables() {
     let mut r = Random(61);
-    let (mut sizes, mut names) = ([[0u32; MAX_RULES + 1]; MAX_NODES + 1], [0u32; MAX_NAME + 1]);
+    let (mut sizes, mut halves, mut edges) = ([[0u32; MAX_RULES + 1]; MAX_NODES + 1], [[0u32; 256]; 2], [0u32; EDGE_NAMES.len()]);
     for _ in 0..12_000 {
         let t = if r.chance(8) { law_free(&mut r, 20, 300) } else { random_table(&mut r) };
         assert_eq!(compare(&mut r, &t.bytes()), written::book(&t));
         sizes[t.nodes.len()][t.rules.len()] += 1;
-        t.rules.iter().for_each(|q| names[q.name as usize] += 1);
+        for name in t.rules.iter().map(|q| q.name) {
+            halves[0][name as usize % 256] += 1;
+            halves[1][name as usize / 256] += 1;
+            edges.iter_mut().zip(EDGE_NAMES).for_each(|(times, edge)| *times += (edge == name) as u32);
+        }
     }
     for rules in 1..=MAX_RULES {
         assert!((1..=MAX_NODES).all(|nodes| sizes[nodes][rules] > 0), "not every table of {rules} rules: {sizes:?}");
         assert!(sizes[1][rules] > 50 && sizes[MAX_NODES][rules] > 50, "{sizes:?}");
     }
-    assert!(names[1..].iter().all(|times| *times > 10), "{names:?}");
+    assert!(halves.concat().iter().all(|times| *times > 30), "{halves:?}");
+    assert!(edges.iter().all(|times| *times > 100), "{edges:?}");
 }
 
 /// Books with rules between the nodes, in any order, with spare records: the written one has none of it.
@@ -152,7 +155,7 @@ fn tables_of_typed_rules() {
 #[test]
 fn simplified_tables() {
     let mut r = Random(64);
-    let mut shorter = 0;
+    let (mut shorter, mut large) = (0, 0);
     for _ in 0..3_000 {
         let nodes = 1 + r.below(MAX_NODES as u64) as usize;
         let longest = r.pick(&[MAX_DELAY, 300, 9]);
@@ -160,12 +163,13 @@ fn simplified_tables() {
         let mut table = before;
         assert_eq!(simplify(&mut table), OK);
         let (long, short) = (compare(&mut r, &before), compare(&mut r, &table));
-        shorter += (short.len() < long.len()) as u32;
         // The rules keep their names and their order.
-        let names = |book: &[u8]| -> Vec<u16> { model::read(book).unwrap().rules.iter().map(|q| q.name).collect() };
-        assert_eq!(names(&short), names(&long));
+        let named = |book: &[u8]| -> Vec<u16> { model::read(book).unwrap().rules.iter().map(|q| q.name).collect() };
+        assert_eq!(named(&short), named(&long));
+        shorter += (short.len() < long.len()) as u32;
+        large += (short.len() < long.len() && named(&short).iter().any(|name| *name > 255)) as u32;
     }
-    assert!(shorter > 2_000, "{shorter}");
+    assert!(shorter > 2_000 && large > 1_000, "{shorter} {large}");
 }
 
 /// 64 nodes and 8 rules: the longest book.
@@ -181,20 +185,29 @@ fn full_tables() {
 
 const HEAD: Record = [0, 0, 0, 0, 0, 0, 0, 0, 1, 0, 0, 0];
 
-/// One node and one rule, all of them.
+/// Names of every lower half and of every upper half, those at the limits among them.
+fn many_names() -> impl Iterator<Item = u16> {
+    (1..=MAX_NAME as u16).step_by(251).chain(EDGE_NAMES)
+}
+
+/// One node and one rule: every node, with many names.
 #[test]
 fn smallest_tables() {
     let mut r = Random(66);
-    for name in 1..=MAX_NAME {
-        for (kind, arg) in (0..=MAX_SIGNAL).map(|s| (1, s)).chain([(2, 0), (3, 0)]) {
-            let (name, arg) = (u8::try_from(name).unwrap(), u8::try_from(arg).unwrap());
+    let mut halves = [[0u32; 256]; 2];
+    for name in many_names() {
+        let [lower, upper] = name.to_le_bytes();
+        halves[0][lower as usize] += 1;
+        halves[1][upper as usize] += 1;
+        for (kind, arg) in (0..=MAX_SIGNAL as u8).map(|s| (1, s)).chain([(2, 0), (3, 0)]) {
             let mut table = [0; TABLE_BYTES];
             (table[NODE_COUNT_AT], table[RULE_COUNT_AT]) = (1, 1);
-            (table[node_at(0)], table[node_at(0) + 1], table[rule_at(0)]) = (kind, arg, name);
-            let wanted = [HEAD, [kind, arg, 0, 0, 0, 0, 0, 0, 2, 0, 0, 0], [11, name, 0, 0, 0, 0, 1, 0, 0, 0, 0, 0]];
+            (table[node_at(0)], table[node_at(0) + 1], table[rule_at(0)], table[rule_at(0) + 1]) = (kind, arg, lower, upper);
+            let wanted = [HEAD, [kind, arg, 0, 0, 0, 0, 0, 0, 2, 0, 0, 0], [11, lower, 0, 0, 0, 0, 1, 0, 0, upper, 0, 0]];
             assert_eq!(compare(&mut r, &table), wanted.concat());
         }
     }
+    assert!(halves.concat().iter().all(|times| *times > 0), "{halves:?}");
 }
 
 /// The book that document 01 runs watch with is the written one.
@@ -209,7 +222,7 @@ fn worked_book() {
 /// Typed rules and their books: all rules stand behind all nodes.
 #[test]
 fn worked_texts() {
-    let rows: [(&str, &[Record]); 3] = [
+    let rows: [(&str, &[Record]); 4] = [
         (
             "9: s31\n1: !s0\n255: true\n",
             &[
@@ -221,6 +234,25 @@ fn worked_texts() {
                 [11, 9, 0, 0, 0, 0, 1, 0, 6, 0, 0, 0],
                 [11, 1, 0, 0, 0, 0, 3, 0, 7, 0, 0, 0],
                 [11, 255, 0, 0, 0, 0, 4, 0, 0, 0, 0, 0],
+            ],
+        ),
+        (
+            "263: s1\n65535: true\n256: !s1\n258: false\n513: s2\n7: s1\n",
+            &[
+                HEAD,
+                [1, 1, 0, 0, 0, 0, 0, 0, 2, 0, 0, 0],
+                [2, 0, 0, 0, 0, 0, 0, 0, 3, 0, 0, 0],
+                [1, 1, 0, 0, 0, 0, 0, 0, 4, 0, 0, 0],
+                [4, 0, 0, 0, 0, 0, 3, 0, 5, 0, 0, 0],
+                [3, 0, 0, 0, 0, 0, 0, 0, 6, 0, 0, 0],
+                [1, 2, 0, 0, 0, 0, 0, 0, 7, 0, 0, 0],
+                [1, 1, 0, 0, 0, 0, 0, 0, 8, 0, 0, 0],
+                [11, 7, 0, 0, 0, 0, 1, 0, 9, 1, 0, 0],
+                [11, 255, 0, 0, 0, 0, 2, 0, 10, 255, 0, 0],
+                [11, 0, 0, 0, 0, 0, 4, 0, 11, 1, 0, 0],
+                [11, 2, 0, 0, 0, 0, 5, 0, 12, 1, 0, 0],
+                [11, 1, 0, 0, 0, 0, 6, 0, 13, 2, 0, 0],
+                [11, 7, 0, 0, 0, 0, 7, 0, 0, 0, 0, 0],
             ],
         ),
         (
@@ -344,23 +376,45 @@ fn every_operand() {
     }
 }
 
-/// Every name and every watched node, at every place of a rule.
+/// Many names and every watched node, at every place of a rule, beside names that have one half in common with the name, or none.
 #[test]
 fn every_rule() {
     let mut r = Random(69);
     let mut t = among_signals(Node { kind: 2, arg: 0, lo: 0, hi: 0, left: 0, right: 0 }, 63);
     for place in 0..MAX_RULES {
-        for name in 1..=MAX_NAME as u16 {
+        for name in many_names() {
             for watched in [0, (name % 64) as u8, 63] {
-                // Seven other names, larger and smaller ones.
-                let others = |i: usize| (name as usize - 1 + 36 * (MAX_RULES + i - place)) % MAX_NAME + 1;
-                t.rules = (0..MAX_RULES).map(|i| Rule { name: others(i) as u16, watched: 63 - i as u8 }).collect();
+                let others = [1, 0x80, 0xff, 0x100, 0x8000, 0xff00, 0x8180, 0xffff, 0x0110].map(|other| name ^ other).into_iter().filter(|other| *other != 0);
+                t.rules = others.zip(0..MAX_RULES as u8).map(|(name, i)| Rule { name, watched: 63 - i }).collect();
                 t.rules[place] = Rule { name, watched };
                 assert_eq!(call(&mut r, &t.bytes(), WRITTEN_BYTES), (OK, WRITTEN_BYTES));
-                let (name, next) = (u8::try_from(name).unwrap(), if place < MAX_RULES - 1 { 66 + place as u8 } else { 0 });
-                assert_eq!(record(&book_of(&t.bytes()), 65 + place), [11, name, 0, 0, 0, 0, watched + 1, 0, next, 0, 0, 0]);
+                let ([lower, upper], next) = (name.to_le_bytes(), if place < MAX_RULES - 1 { 66 + place as u8 } else { 0 });
+                assert_eq!(record(&book_of(&t.bytes()), 65 + place), [11, lower, 0, 0, 0, 0, watched + 1, 0, next, upper, 0, 0]);
             }
         }
+    }
+}
+
+/// All names, eight in each table, through the writer and back: only bytes 1 and 9 of the rules' records differ.
+#[test]
+fn every_name() {
+    let mut r = Random(76);
+    let mut t = among_signals(Node { kind: 3, arg: 0, lo: 0, hi: 0, left: 0, right: 0 }, 63);
+    t.rules = (0..MAX_RULES as u8).map(|i| Rule { name: 1 + i as u16, watched: 7 * i }).collect();
+    let small = book_of(&t.bytes());
+    // The last names come with those from 1 on.
+    for first in (1..=MAX_NAME).step_by(MAX_RULES) {
+        let mut wanted = small.clone();
+        for i in 0..MAX_RULES {
+            t.rules[i].name = ((first + i - 1) % MAX_NAME + 1) as u16;
+            let record = (1 + MAX_NODES + i) * RECORD_BYTES;
+            [wanted[record + LOWER], wanted[record + UPPER]] = t.rules[i].name.to_le_bytes();
+        }
+        let table = t.bytes();
+        assert_eq!(call(&mut r, &table, WRITTEN_BYTES), (OK, WRITTEN_BYTES));
+        let book = book_of(&table);
+        same("book", &book, &wanted);
+        same("table read back", &table_of(&book), &table);
     }
 }
 
@@ -442,10 +496,16 @@ fn soundness_at_its_limits() {
         (|t| t.rules[0].watched = 10, UNSOUND),
         (|t| t.nodes.truncate(9), UNSOUND),
         (|t| t.rules[1].name = 255, OK),
-        (|t| t.rules[1].name = 256, UNSOUND),
-        (|t| t.rules[1].name = 256 + 3, UNSOUND),
+        (|t| t.rules[1].name = 256, OK),
+        (|t| t.rules[1].name = 65_280, OK),
+        (|t| t.rules[1].name = MAX_NAME as u16, OK),
         (|t| t.rules[1].name = 0, UNSOUND),
         (|t| t.rules[1].name = 4, UNSOUND),
+        // Names are equal only where both halves are.
+        (|t| t.rules[1].name = 256 + 4, OK),
+        (|t| (t.rules[0].name, t.rules[1].name) = (0x0403, 0x0404), OK),
+        (|t| (t.rules[0].name, t.rules[1].name) = (0x0403, 0x0304), OK),
+        (|t| (t.rules[0].name, t.rules[1].name) = (0x0403, 0x0403), UNSOUND),
         (|t| t.rules.extend((5..11).map(|name| Rule { name, watched: 0 })), OK),
         (|t| t.rules.extend((5..11).map(|name| Rule { name: 4 + name % 10, watched: 0 })), UNSOUND),
         (|t| t.nodes.resize(MAX_NODES, t.nodes[9]), OK),
@@ -515,6 +575,10 @@ fn every_byte_changed() {
     for (nodes, rule_count) in [(1, 1), (2, 2), (9, 8), (40, 4), (64, 8), (64, 8)] {
         tables.push(sized(&mut r, nodes, rule_count, MAX_DELAY));
     }
+    // Eight names that differ in one half alone, the other being zero.
+    for (table, by) in [(4, 1), (6, 256)] {
+        tables[table].rules.iter_mut().zip(1..).for_each(|(q, i)| q.name = by * i);
+    }
     let (mut refused, mut accepted) = ([0u32; TABLE_BYTES], 0);
     for (i, t) in tables.iter().enumerate() {
         let bytes = t.bytes();
@@ -535,7 +599,10 @@ fn every_byte_changed() {
             }
         }
     }
-    assert!(refused.iter().all(|times| *times > 20) && accepted > 5_000, "{refused:?} {accepted}");
+    // A name is refused only where it becomes zero or another rule's. The bytes of later rules are those of free places too.
+    let name = rule_at(0)..rule_at(0) + 2;
+    let enough = |at: usize| if name.contains(&at) { 7 } else { 20 };
+    assert!((0..TABLE_BYTES).all(|at| refused[at] > enough(at)) && accepted > 5_000, "{refused:?} {accepted}");
 }
 
 #[test]
