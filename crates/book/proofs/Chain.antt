@@ -14,11 +14,10 @@ use Rattle.table.specs.Nodes.{noNode, noRule}
 use Rattle.table.specs.declared.Rule.{Rule}
 use Rattle.book.specs.declared.Entry.{Entry}
 use Rattle.book.specs.declared.Reading.{Reading}
-use Rattle.book.specs.Entries.{Naming, entryOf, isNode, isRule, nameOf, badLength, badHead}
+use Rattle.book.specs.Entries.{Naming, TwoBytes, entryOf, isNode, isRule, nameOf, badLength, badHead}
 use Rattle.book.specs.Reading.{filter, isNodeAt, isRuleAt, nodesIn, rulesIn, nodeOf, ruleOf, collect, nodes, rules, linkFault, rows, fault, faultBy, headFault, refused, accepted, unless, finished, finishedBy, alongBy, reading, readingBy}
 use Rattle.book.specs.Chain.{OnChain, head, next, ReadBy, start, linked, then, Read, SameRecord, SameChain, SameRead}
-use Rattle.book.proofs.Among.{collect-map}
-use Rattle.book.proofs.Stands.{nodeIn, ruleIn}
+use Rattle.book.proofs.Stands.{nodeIn, ruleIn, names-of}
 
 -- ---- lists whose elements all have a property
 module _ (P : ℕ → Type 0) where
@@ -93,11 +92,8 @@ module _ (s u : List ℕ) where
     rules-are : rules s b ≡ rules u b
     rules-are = collect-same Same (isRuleAt s) (isRuleAt u) rule-test (ruleIn s) (ruleIn u) rule-in [] b (all-none Same) h
 
-    names : (t : List ℕ) → map (λ q. nameOf (entryOf t q)) (rulesIn t b) ≡ map (λ (x : Rule). x .name) (rules t b)
-    names t = sym (collect-map (isRuleAt t) (ruleIn t) (λ (x : Rule). x .name) (λ q. nameOf (entryOf t q)) (λ a x. refl) [] b)
-
     names-are : map (λ q. nameOf (entryOf s q)) (rulesIn s b) ≡ map (λ q. nameOf (entryOf u q)) (rulesIn u b)
-    names-are = names s ∙ ap (map (λ (x : Rule). x .name)) rules-are ∙ sym (names u)
+    names-are = sym (names-of TwoBytes s b) ∙ ap (map (λ (x : Rule). x .name)) rules-are ∙ names-of TwoBytes u b
 
     fault-same : (r : ℕ) → Same r → fault s b r ≡ fault u b r
     unfolding faultBy Same

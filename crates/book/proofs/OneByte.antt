@@ -28,9 +28,9 @@ use Rattle.book.specs.Code.Steps.{entered, added, begun}
 use Rattle.book.specs.Writing.{headEntry, nodeEntry, ruleEntry, many, linkAfter, entryFor, bookOf, YieldedBy}
 use Rattle.book.specs.OneByte.{OneByteSound, Large, NoneLarge, FormTried, FirstRefused, OneByteReader}
 use Rattle.book.proofs.Tests.{head-clear}
-use Rattle.book.proofs.Among.{collect-map, collect-each}
+use Rattle.book.proofs.Among.{collect-each}
 use Rattle.book.proofs.Kept.{keeping}
-use Rattle.book.proofs.Stands.{ruleIn}
+use Rattle.book.proofs.Stands.{ruleIn, names-of}
 use Rattle.book.proofs.Going.{At, fuelled, starts, further}
 use Rattle.book.proofs.Accepts.{none, head-of, accepted-keeps, keeps-accepted}
 use Rattle.book.proofs.Sound.{byte-at}
@@ -68,11 +68,7 @@ module _ (s : List ℕ) where
         (λ c hc r o. ap (λ (n : ℕ). record { name = n; watched = place (nodesIn s c) (entryOf s r .left) }) (named-same (entryOf s r) o)) [] b (all-none Plain) h
 
     names-same : map (λ q. nameBy OneByte (entryOf s q)) (rulesIn s b) ≡ map (λ q. nameBy TwoBytes (entryOf s q)) (rulesIn s b)
-    names-same = sym (listed OneByte) ∙ ap (map (λ (x : Rule). x .name)) rules-same ∙ listed TwoBytes
-      where
-        listed : (names : Naming) → map (λ (x : Rule). x .name) (rulesBy names s b) ≡ map (λ q. nameBy names (entryOf s q)) (rulesIn s b)
-        listed names =
-            collect-map (isRuleAt s) (λ c r. ruleOfBy names (nodesIn s c) (entryOf s r)) (λ (x : Rule). x .name) (λ q. nameBy names (entryOf s q)) (λ c r. refl) [] b
+    names-same = sym (names-of OneByte s b) ∙ ap (map (λ (x : Rule). x .name)) rules-same ∙ names-of TwoBytes s b
 
     finished-same : finishedBy OneByte s b ≡ finishedBy TwoBytes s b
     finished-same = rw rules-same
@@ -343,7 +339,7 @@ module _ (t : Table) (y : OneByteSound t) where
         reads = same (bookOf t) b (λ r o l. omega (arith, l .above, book-small r (l .rule))) ∙ sound-reads t (y .sound);
       }
 
--- THE LAW
+-- THE LAW: what the reader before A11 makes of books
 pub one-byte-reader : OneByteReader
 one-byte-reader = record {
   same = same;

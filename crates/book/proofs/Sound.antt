@@ -15,18 +15,17 @@ use Rattle.lists.proofs.Rows.{no-row}
 use Rattle.table.specs.Nodes.{noTable, formulas}
 use Rattle.table.proofs.Delays.{delay-of}
 use Rattle.table.specs.Sound.{NodeFits, Sound}
-use Rattle.table.specs.declared.Rule.{Rule}
 use Rattle.table.specs.declared.Uses.{Uses}
 use Rattle.builder.proofs.Holding.{names}
 use Rattle.builder.proofs.Sound.{Good, good-none, good-node, good-rule, good-sound, uses-arg}
 use Rattle.book.specs.declared.Entry.{Entry}
 use Rattle.book.specs.declared.Reading.{Reading}
-use Rattle.book.specs.Entries.{Bytes, entryOf, nameOf}
+use Rattle.book.specs.Entries.{TwoBytes, Bytes, entryOf, nameOf}
 use Rattle.book.specs.Reading.{place, isNodeAt, isRuleAt, nodesIn, nodeOf, ruleOf, nodes, rules, tableOf, rows, fault, headFault, refused, accepted, unless, finished, along, alongBy, reading, readingBy}
 use Rattle.book.specs.Keeps.{Head, Kept, EarlierNode, Along, over, on}
 use Rattle.book.proofs.Tests.{other-kind, node-no-rule, node-uses, rule-uses}
-use Rattle.book.proofs.Among.{among-filter, collect-in, collect-out, collect-map, collect-length, index-lt}
-use Rattle.book.proofs.Stands.{nodeIn, ruleIn}
+use Rattle.book.proofs.Among.{among-filter, collect-in, collect-out, collect-length, index-lt}
+use Rattle.book.proofs.Stands.{nodeIn, ruleIn, names-of}
 use Rattle.book.proofs.Going.{name-small}
 use Rattle.book.proofs.Kept.{node-iff, earlier-iff, keeping}
 use Rattle.book.proofs.Accepts.{accepted-keeps, keeps-accepted, head-no-rule}
@@ -95,7 +94,7 @@ module _ (s : List ℕ) (bytes : Bytes s) (head : Head (entryOf s 0)) where
 
       new-name : among (nameOf e) (names (rules s before)) ≡ false
       new-name =
-          ap (among (nameOf e)) (collect-map (isRuleAt s) (ruleIn s) (λ (x : Rule). x .name) (λ q. nameOf (entryOf s q)) (λ b x. refl) [] before)
+          ap (among (nameOf e)) (names-of TwoBytes s before)
           ∙ and-right (isRuleAt s r) _ (no-row (rows s before r e) refl (keeping s before r e k) 7) rule-at
 
       more-rule : Good (nodes s (before ++ (r ∷ []))) (rules s (before ++ (r ∷ [])))

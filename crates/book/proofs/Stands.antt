@@ -1,7 +1,7 @@
 -- The state of the code's walk, and the records that it passed: reading by the one is reading by the other. Assumes nothing.
 use mathlib.Core.Path.{_≡_, refl, sym, ap, _∙_}
 use mathlib.Core.Bool.{Bool, true, false, _&&_, _||_, not, true≢false, or-false, or-true, and-false}
-use mathlib.Core.List.{List, [], _∷_, _++_}
+use mathlib.Core.List.{List, [], _∷_, _++_, map}
 use Prim.Native.Nat.{ℕ, zero, suc, _+_, _-_, _*_, _≤_, _<_}
 use native.Mathlib.Nat.{le-of-suc-le-suc}
 use native.Mathlib.Omega.{arith}
@@ -24,9 +24,9 @@ use Rattle.book.specs.declared.Entry.{Entry}
 use Rattle.book.specs.declared.Walk.{Walk}
 use Rattle.limits.specs.Limits.{maxName}
 use Rattle.interval.specs.Parts.{badInterval}
-use Rattle.book.specs.Entries.{entryOf, usesIn, nameOf, formed, badForm, badArg, badLength, badHead}
+use Rattle.book.specs.Entries.{Naming, TwoBytes, entryOf, usesIn, nameBy, nameOf, formed, badForm, badArg, badLength, badHead}
 use Rattle.book.specs.Code.Steps.{seenAt, entered, noPlace, placeBy, nodeBy, ruleBy, nodeAdded, ruleAdded, added, badLink, builderRows, walkFault, begun, walkEnded}
-use Rattle.book.specs.Reading.{index, place, isNodeAt, isRuleAt, nodesIn, rulesIn, nodeOf, ruleOf, nodes, rules, linkFault, operandFault, countFault, delayFault, nameFault, rows, fault, faultBy, headFault, finished}
+use Rattle.book.specs.Reading.{index, place, isNodeAt, isRuleAt, nodesIn, rulesIn, nodeOf, ruleOfBy, ruleOf, nodes, rulesBy, rules, linkFault, operandFault, countFault, delayFault, nameFault, rows, fault, faultBy, headFault, finished}
 use Rattle.book.specs.Keeps.{Kept}
 use Rattle.book.proofs.Tests.{other-kind, node-no-rule, node-uses, rule-uses}
 use Rattle.book.proofs.Among.{eqb-suc, among-snoc, among-filter, filter-in, filter-out, collect-in, collect-out, collect-map, collect-length, index-old, index-new, index-lt}
@@ -38,6 +38,11 @@ nodeIn s before r = nodeOf (nodesIn s before) (entryOf s r)
 
 abbrev pub ruleIn : List ℕ → List ℕ → ℕ → Rule
 ruleIn s before r = ruleOf (nodesIn s before) (entryOf s r)
+
+-- the names of rules are those of their records
+pub names-of : (names : Naming) (s chain : List ℕ) → map (λ (x : Rule). x .name) (rulesBy names s chain) ≡ map (λ q. nameBy names (entryOf s q)) (rulesIn s chain)
+names-of names s chain =
+    collect-map (isRuleAt s) (λ before r. ruleOfBy names (nodesIn s before) (entryOf s r)) (λ (x : Rule). x .name) (λ q. nameBy names (entryOf s q)) (λ b r. refl) [] chain
 
 -- the table of the records before
 abbrev tableBefore : List ℕ → List ℕ → Table
@@ -220,7 +225,7 @@ module _ {s before : List ℕ} {w : Walk} (t : Stands s before w) (r : ℕ) (b :
     used-same =
         ap (λ (x : Table). nameUsed x (ruleBy (entered w r) e)) (t .table-is)
         ∙ name-held (nodes s before) (rules s before) (ruleBy (entered w r) e)
-        ∙ ap (among (nameOf e)) (collect-map (isRuleAt s) (ruleIn s) (λ (x : Rule). x .name) (λ (q : ℕ). nameOf (entryOf s q)) (λ b x. refl) [] before)
+        ∙ ap (among (nameOf e)) (names-of TwoBytes s before)
         ∙ rw rule-at
 
     rule-rows : nameOf e ≤ maxName → first (addRuleRows (w .table) (ruleBy (entered w r) e)) ≡ first (laterRows s before e)
