@@ -1,5 +1,5 @@
 -- A book is accepted exactly where it keeps the rules, and its table is that of its chain. Assumes nothing.
-use mathlib.Core.Path.{_≡_, refl, ap, _∙_}
+use mathlib.Core.Path.{_≡_, refl, sym, ap, _∙_}
 use mathlib.Core.Bool.{Bool, true, false, not}
 use mathlib.Core.List.{List, [], _∷_, _++_, append-nil, append-assoc}
 use mathlib.Core.Logic.{_↔_}
@@ -16,12 +16,13 @@ use Rattle.table.specs.Nodes.{formulaOver, formulas}
 use Rattle.book.specs.declared.Entry.{Entry}
 use Rattle.book.specs.declared.Walk.{Walk}
 use Rattle.book.specs.declared.Reading.{Reading}
-use Rattle.book.specs.Entries.{entryOf, badLength, badHead}
+use Rattle.book.specs.Entries.{TwoBytes, entryOf, badLength, badHead}
 use Rattle.book.specs.Code.Steps.{entered, added, begun}
-use Rattle.book.specs.Reading.{refused, accepted, unless, isRuleAt, nodesIn, rulesIn, nodeOf, nodes, rules, tableOf, fault, faultBy, headFault, finished, along, alongBy, reading, readingBy}
+use Rattle.book.specs.Reading.{accepted, unless, isRuleAt, nodesIn, rulesIn, nodeOf, nodes, rules, tableOf, fault, faultBy, headFault, finished, along, alongBy, reading}
 use Rattle.book.specs.Keeps.{Size, Head, Linked, KeptBy, AlongBy, over, on, KeepsBy, Kept, Along, Keeps, StaysKept}
 use Rattle.book.proofs.Tests.{Sized, head-clear}
 use Rattle.book.proofs.Among.{collect-length}
+use Rattle.book.proofs.Along.{none, reading-begins, head-none, along-ends, along-goes}
 use Rattle.book.proofs.Going.{At, fuelled, starts, further}
 use Rattle.book.proofs.Kept.{kept, keeping, is-linked, next-is}
 use Rattle.book.proofs.Stands.{ruleIn}
@@ -36,14 +37,6 @@ finished-some s chain = go (eqb (length (rules s chain)) 0) refl
     go : (b : Bool) → eqb (length (rules s chain)) 0 ≡ b → unless (pick b 11 0) 0 (accepted (tableOf s chain)) .number ≡ 0 → 1 ≤ length (rules s chain)
     go true e h = absurd (omega arith)
     go false e h = let z = eqb-false (length (rules s chain)) 0 e in omega arith
-
--- what is accepted has no fault
-pub none : (n r : ℕ) (x : Reading) → unless n r x .number ≡ 0 → n ≡ 0
-none n r x = go (eqb n 0) refl
-  where
-    go : (b : Bool) → eqb n 0 ≡ b → pick b x (refused n r) .number ≡ 0 → n ≡ 0
-    go true e h = eqb-true n 0 e
-    go false e h = h
 
 module _ (s : List ℕ) where
   -- ---- what is accepted keeps the rules
@@ -81,13 +74,12 @@ module _ (s : List ℕ) where
   -- ---- what keeps the rules is accepted
   taken : {before : List ℕ} {r : ℕ} {chain : List ℕ} {w : Walk} (f : ℕ) → Along s before r chain → At s f before w r → 1 ≤ length (rules s (before ++ chain))
       → along s f before r ≡ accepted (tableOf s (before ++ chain))
-  unfolding alongBy faultBy
-  taken {before} zero over a h = rw append-nil (finished-is s before (rw append-nil at h))
-  taken {before} (suc f) over a h = rw append-nil (finished-is s before (rw append-nil at h))
+  unfolding faultBy
+  taken {before} f over a h = along-ends TwoBytes s before 0 f refl ∙ rw append-nil (finished-is s before (rw append-nil at h))
   taken zero (on z k l) a h = absurd (omega (arith, fuelled a z))
   taken {before} {r} (suc f) (on {rest = rest} z k l) a h =
       let ih = taken f l (further a z (keeping s before r (entryOf s r) k)) (rw (append-assoc before (r ∷ []) rest) h) in
-      rw (ne-eqb r 0 z, keeping s before r (entryOf s r) k) (ih ∙ rw append-assoc)
+      along-goes TwoBytes s before r f z (keeping s before r (entryOf s r) k) ∙ ih ∙ rw append-assoc
 
 -- ---- the head
 size-of : (n : ℕ) → Sized n → Size n
@@ -128,12 +120,11 @@ module _ (s : List ℕ) where
 
   -- THE LAW: a book that is accepted keeps the rules
   pub accepted-keeps : reading s .number ≡ 0 → Keeps s
-  unfolding readingBy
   accepted-keeps h =
-      let n = none (headFault s) 0 (along s 255 (0 ∷ []) (entryOf s 0 .next)) h in
+      let n = head-none TwoBytes s h in
       let k = head-clear s n in
       let e = head-of (entryOf s 0) (k .head) in
-      let o = found s 255 (0 ∷ []) begun (entryOf s 0 .next) (starts s k) (rw n at h) in
+      let o = found s 255 (0 ∷ []) begun (entryOf s 0 .next) (starts s k) (ap (λ (x : Reading). x .number) (reading-begins TwoBytes s n) ∙ h) in
       record {
         size = size-of (length s) (k .size);
         head = e;
@@ -145,10 +136,9 @@ module _ (s : List ℕ) where
 
   -- THE LAW: a book that keeps the rules is accepted, and its table is that of its chain
   pub keeps-accepted : (k : Keeps s) → reading s ≡ accepted (tableOf s (0 ∷ k .chain))
-  unfolding readingBy
   keeps-accepted k =
       let n = headed (k .size) (k .head) (k .linked) in
-      rw n (taken s 255 (k .along) (starts s (head-clear s n)) (omega (arith, head-no-rule (k .head) (k .chain), k .ruled)))
+      sym (reading-begins TwoBytes s n) ∙ taken s 255 (k .along) (starts s (head-clear s n)) (omega (arith, head-no-rule (k .head) (k .chain), k .ruled))
 
   -- THE LAW: accepted, exactly where the rules are kept
   pub accepted-exactly : (reading s .number ≡ 0) ↔ Keeps s

@@ -7,8 +7,8 @@ use Prim.Native.Nat.{ℕ, zero, suc, _+_, _-_, _*_, _/_, _%_, _≤_, _<_}
 use native.Mathlib.Nat.{add-suc, add-zero, zero-add}
 use native.Mathlib.Numerals.{add-one}
 use native.Mathlib.Omega.{arith}
-use borrow.Author.Tests.{ltb-true, leb-true, leb-false, eqb-false, lt-ltb, le-ltb}
-use lib.Dec.{ltb, leb, eqb}
+use borrow.Author.Tests.{ltb-true, lt-ltb, le-ltb}
+use lib.Dec.{ltb}
 use lib.ListN.{length, getD, take, drop, length-take}
 use lib.Seq.{take-suc}
 use Rattle.lists.specs.Choice.{pick}
@@ -28,14 +28,14 @@ use Rattle.book.specs.declared.Reading.{Reading}
 use Rattle.book.specs.Entries.{Bytes, entryOf, isNode, isRule, nameOf, usesIn}
 use Rattle.book.specs.Reading.{isNodeAt, isRuleAt, nodesIn, rulesIn, nodeOf, ruleOf, nodes, rules, tableOf, accepted, reading}
 use Rattle.book.specs.Keeps.{Head, Linked, Kept, Along, over, on, Keeps}
-use Rattle.book.specs.Writing.{bytes, headEntry, nodeEntry, ruleEntry, many, linkAfter, entryFor, bookOf, Yielded}
+use Rattle.book.specs.Writing.{bytes, plainEntry, headEntry, nodeEntry, ruleEntry, many, linkAfter, entryFor, bookOf, Yielded}
 use Rattle.book.proofs.Tests.{node-no-rule, node-uses}
 use Rattle.book.proofs.Among.{among-not, filter-in, filter-out, collect-in, collect-out}
 use Rattle.book.proofs.Stands.{nodeIn, ruleIn}
 use Rattle.book.proofs.Kept.{node-iff, earlier-iff, rule-among}
 use Rattle.book.proofs.Accepts.{keeps-accepted, head-no-rule}
 use Rattle.book.proofs.Sound.{accepted-sound}
-use Rattle.book.proofs.Writes.{node-for, rule-for, next-for, operands-small, watched-small, length-book}
+use Rattle.book.proofs.Writes.{node-for, rule-for, entry-by, next-for, operands-small, watched-small, length-book}
 use Rattle.book.proofs.Records.{two, entry-of, listed, listed-none, listed-more, length-listed, ups, ones, first-up, among-ups, among-records, operand-place, Which, which}
 
 module _ (t : Table) (z : Sound t) where
@@ -301,7 +301,7 @@ module _ (t : Table) (z : Sound t) where
       (lt-or-le k n)
 
   each-next : (k : ℕ) → k < many t → entryOf s (suc k) .next ≡ linkAfter t (suc k)
-  each-next k h = ap (λ (e : Entry). e .next) (ent (suc k) (omega arith)) ∙ next-for t (suc k)
+  each-next k h = ap (λ (e : Entry). e .next) (ent (suc k) (omega arith)) ∙ next-for t (suc k) (omega arith)
 
   from : ℕ → ℕ → List ℕ
   from k zero = []
@@ -410,49 +410,49 @@ number-small true u h = omega arith
 number-small false u h = omega arith
 
 module _ (t : Table) (z : Sound t) where
-  entry-small : (r : ℕ) → r ≤ many t → Small (entryFor t r)
-  unfolding n
-  entry-small r h = go (eqb r 0) refl (leb r (t .«node_count»)) refl
-    where
-      to : linkAfter t r < 256
-      to = after-small t r (omega (arith, z .few-nodes, z .few-rules))
+  module _ (r : ℕ) where
+    to : linkAfter t r < 256
+    to = after-small t r (omega (arith, z .few-nodes, z .few-rules))
 
-      go : (a : Bool) → eqb r 0 ≡ a → (b : Bool) → leb r (t .«node_count») ≡ b
-          → Small (pick a (headEntry (linkAfter t r)) (pick b (nodeEntry (nodeAt t (r - 1)) (linkAfter t r)) (ruleEntry (ruleAt t (r - 1 - t .«node_count»)) (linkAfter t r))))
-      go true e b f = record { kind = omega arith; arg = omega arith; lo = omega arith; hi = omega arith; left = omega arith; right = omega arith; next = to; upper = omega arith; tail0 = omega arith; tail1 = omega arith }
-      go false e true f =
-          let q : r - 1 < t .«node_count» = omega (arith, eqb-false r 0 e, leb-true r (t .«node_count») f) in
-          let y = z .node (r - 1) q in
-          let x = nodeAt t (r - 1) in
-          let k = node-keeps t z (r - 1) q in
-          let o = operands-small t z (r - 1) q in
-          record {
-            kind = omega (arith, y .node);
-            arg = field-below 256 (y .arg) (omega arith) (omega arith);
-            lo = omega (arith, k .ordered, k .limited);
-            hi = omega (arith, k .limited);
-            left = number-small (usesIn (x .kind) .left) (x .left) (o .0);
-            right = number-small (usesIn (x .kind) .right) (x .right) (o .1);
-            next = to;
-            upper = omega arith;
-            tail0 = omega arith;
-            tail1 = omega arith;
-          }
-      go false e false f =
-          let q : r - 1 - t .«node_count» < t .«rule_count» = omega (arith, leb-false r (t .«node_count») f) in
-          let y = z .rule (r - 1 - t .«node_count») q in
-          record {
-            kind = omega arith;
-            arg = omega arith;
-            lo = omega arith;
-            hi = omega arith;
-            left = omega (arith, watched-small t z (r - 1 - t .«node_count») q);
-            right = omega arith;
-            next = to;
-            upper = omega (arith, y .largest);
-            tail0 = omega arith;
-            tail1 = omega arith;
-          }
+    node-small : (p : ℕ) → p < t .«node_count» → Small (nodeEntry (nodeAt t p) (linkAfter t r))
+    unfolding n
+    node-small p q =
+        let y = z .node p q in
+        let x = nodeAt t p in
+        let k = node-keeps t z p q in
+        let o = operands-small t z p q in
+        record {
+          kind = omega (arith, y .node);
+          arg = field-below 256 (y .arg) (omega arith) (omega arith);
+          lo = omega (arith, k .ordered, k .limited);
+          hi = omega (arith, k .limited);
+          left = number-small (usesIn (x .kind) .left) (x .left) (o .0);
+          right = number-small (usesIn (x .kind) .right) (x .right) (o .1);
+          next = to;
+          upper = omega arith;
+          tail0 = omega arith;
+          tail1 = omega arith;
+        }
+
+    -- one without an interval and a right operand
+    plain-small : (kind name left : ℕ) → kind < 256 → name < 65536 → left < 256 → Small (plainEntry kind name left (linkAfter t r))
+    plain-small kind name left k n l = record {
+      kind = k;
+      arg = omega arith;
+      lo = omega arith;
+      hi = omega arith;
+      left = l;
+      right = omega arith;
+      next = to;
+      upper = omega arith;
+      tail0 = omega arith;
+      tail1 = omega arith;
+    }
+
+    entry-small : r ≤ many t → Small (entryFor t r)
+    entry-small =
+        entry-by t r Small (plain-small 0 0 0 (omega arith) (omega arith) (omega arith)) node-small λ q l.
+        plain-small 11 (ruleAt t q .name) (ruleAt t q .watched + 1) (omega arith) (omega (arith, z .rule q l .largest)) (omega (arith, watched-small t z q l))
 
 -- THE LAWS: the book of a sound table is bytes, its chain is 1, 2, 3 up to the last record, and it reads as the table
 pub sound-bytes : (t : Table) → Sound t → Bytes (bookOf t)

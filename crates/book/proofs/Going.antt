@@ -16,14 +16,15 @@ use Rattle.book.specs.declared.Entry.{Entry}
 use Rattle.book.specs.declared.Walk.{Walk}
 use Rattle.book.specs.declared.Tried.{Tried}
 use Rattle.book.specs.declared.Reading.{Reading}
-use Rattle.book.specs.Entries.{entryOf, isNode, nameOf}
+use Rattle.book.specs.Entries.{TwoBytes, entryOf, isNode, nameOf}
 use Rattle.book.specs.Code.Steps.{seenAt, entered, nodeAdded, ruleAdded, added, walkFault, stepped, begun, walkEnded}
-use Rattle.book.specs.Reading.{refused, rows, fault, faultBy, headFault, finished, along, alongBy, reading, readingBy}
+use Rattle.book.specs.Reading.{refused, rows, fault, faultBy, headFault, along, reading, readingBy}
 use Rattle.book.specs.Keeps.{Linked}
 use Rattle.lists.proofs.Rows.{no-row}
 use Rattle.book.proofs.Tests.{Sized, HeadClear, head-clear, head-kind}
 use Rattle.book.proofs.Among.{not-among}
 use Rattle.book.proofs.Kept.{next-is}
+use Rattle.book.proofs.Along.{reading-begins, along-ends, along-stops, along-goes}
 use Rattle.book.proofs.Stands.{Stands, fault-same, added-stands, new-seen, begun-stands, ended-same}
 
 -- how many records are not passed
@@ -121,10 +122,9 @@ pub record Going (s : List ℕ) (w : Walk) (r : ℕ) : Type 0 where
   pub same : along s fuel before r ≡ reading s
 
 pub begins : (s : List ℕ) {f : ℕ} {w : Walk} {e : Entry} → f ≡ headFault s → f ≡ 0 → w ≡ begun → e ≡ entryOf s 0 → Going s w (e .next)
-unfolding readingBy
 begins s p q i j =
     let h : headFault s ≡ 0 = sym p ∙ q in
-    rw (i, j) (record { before = 0 ∷ []; fuel = 255; at = starts s (head-clear s h); same = rw h })
+    rw (i, j) (record { before = 0 ∷ []; fuel = 255; at = starts s (head-clear s h); same = reading-begins TwoBytes s h })
 
 pub head-stops : (s : List ℕ) {f : ℕ} {x : Reading} → f ≡ headFault s → ¬ (f ≡ 0) → x ≡ refused f 0 → x ≡ reading s
 unfolding readingBy
@@ -132,12 +132,7 @@ head-stops s p q i = rw (i, p, ne-eqb (headFault s) 0 (λ z. q (p ∙ z)))
 
 module _ {s : List ℕ} {w : Walk} {r : ℕ} (g : Going s w r) where
   pub ends : {x : Reading} → r ≡ 0 → x ≡ walkEnded w → x ≡ reading s
-  unfolding alongBy
-  ends z i = i ∙ ended-same (g .at .stands) ∙ go (g .fuel) ∙ g .same
-    where
-      go : (f : ℕ) → finished s (g .before) ≡ along s f (g .before) r
-      go zero = refl
-      go (suc f) = rw (eq-eqb r 0 z)
+  ends z i = i ∙ ended-same (g .at .stands) ∙ sym (along-ends TwoBytes s (g .before) r (g .fuel) z) ∙ g .same
 
   -- the record r is tried; its name is small enough
   module _ (z : ¬ (r ≡ 0)) {v : Walk} {e : Entry} {x : Tried} (i : v ≡ entered w r) (j : e ≡ entryOf s r) (b : nameOf e ≤ maxName) (k : x ≡ stepped (length s) v r e) where
@@ -145,12 +140,9 @@ module _ {s : List ℕ} {w : Walk} {r : ℕ} (g : Going s w r) where
     found = ap (λ (y : Tried). y .number) k ∙ rw (i, j) (fault-is (g .at) z (subst (λ (y : Entry). nameOf y ≤ maxName) j b))
 
     pub stops : {y : Reading} → ¬ (x .number ≡ 0) → y ≡ refused (x .number) r → y ≡ reading s
-    unfolding alongBy
-    stops q y = y ∙ go (g .fuel) (fuelled (g .at) z) ∙ g .same
-      where
-        go : (f : ℕ) → 0 < f → refused (x .number) r ≡ along s f (g .before) r
-        go zero h = absurd (omega arith)
-        go (suc f) h = rw (ne-eqb r 0 z, ← found, ne-eqb (x .number) 0 q)
+    stops q y =
+        y ∙ ap (λ (n : ℕ). refused n r) found
+        ∙ sym (along-stops TwoBytes s (g .before) r (g .fuel) (fuelled (g .at) z) z (λ n. q (found ∙ n))) ∙ g .same
 
     module _ (q : x .number ≡ 0) where
       next-state : x .walk ≡ added (entered w r) r (entryOf s r)
@@ -164,11 +156,10 @@ module _ {s : List ℕ} {w : Walk} {r : ℕ} (g : Going s w r) where
       less = rw next-state (omega (arith, one-less (g .at) z))
 
       pub turns : Going s (x .walk) (e .next)
-      unfolding alongBy
       turns = rw (next-state, j) (go (g .fuel) (g .at) (g .same))
         where
           go : (f : ℕ) → At s f (g .before) w r → along s f (g .before) r ≡ reading s → Going s (added (entered w r) r (entryOf s r)) (entryOf s r .next)
           go zero a m = absurd (omega (arith, fuelled a z))
           go (suc f) a m =
               let c : fault s (g .before) r ≡ 0 = sym found ∙ q in
-              record { before = g .before ++ (r ∷ []); fuel = f; at = further a z c; same = rw (ne-eqb r 0 z, c) at m }
+              record { before = g .before ++ (r ∷ []); fuel = f; at = further a z c; same = sym (along-goes TwoBytes s (g .before) r f z c) ∙ m }

@@ -8,6 +8,8 @@ mod Among
 mod Kept
 -- the state of the code's walk, and the records that it passed
 mod Stands
+-- reading along the chain, step by step
+mod Along
 -- the loop along the chain
 mod Going
 -- a book is accepted exactly where it keeps the rules

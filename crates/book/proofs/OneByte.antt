@@ -5,35 +5,36 @@ use mathlib.Core.List.{List, [], _∷_, _++_, map, List·Memᴰ, List·Memᴰ·n
 use mathlib.Core.Logic.{_⊎_, inl, inr, ⊎-elim, _↔_}
 use Prim.Native.Nat.{ℕ, zero, suc, _+_, _-_, _*_, _≤_, _<_}
 use native.Mathlib.Omega.{arith}
-use borrow.Author.Tests.{eqb-true, eqb-false, leb-true, leb-false, ne-eqb, not-false}
-use lib.Dec.{leb, eqb}
+use borrow.Author.Tests.{eqb-true, eqb-false, not-false}
+use lib.Dec.{eqb}
 use lib.ListN.{length, getD, List·getD-eq-default}
-use Rattle.lists.specs.Choice.{pick}
 use Rattle.lists.specs.Sequence.{among, ticks}
 use Rattle.lists.proofs.Tests.{lt-or-le, true-left, true-right, true-or-false}
 use Rattle.lists.proofs.Rows.{no-row}
 use Rattle.lists.proofs.Sequences.{length-ticks, getD-ticks, getD-padded}
-use Rattle.table.specs.Nodes.{noRule, nodeAt, ruleAt}
+use Rattle.table.specs.Nodes.{noRule, ruleAt}
 use Rattle.table.specs.declared.Rule.{Rule}
 use Rattle.table.specs.declared.Table.{Table}
 use Rattle.table.specs.declared.Uses.{Uses}
 use Rattle.book.specs.declared.Entry.{Entry}
 use Rattle.book.specs.declared.Walk.{Walk}
 use Rattle.book.specs.declared.Reading.{Reading}
-use Rattle.book.specs.Entries.{Naming, OneByte, TwoBytes, Bytes, entryOf, usesIn, isRule, nameBy, nameOf, formedBy, badFormBy, badArgBy}
+use Rattle.book.specs.Entries.{OneByte, TwoBytes, Bytes, entryOf, usesIn, isRule, nameBy, nameOf, formedBy, badFormBy, badArgBy}
 use Rattle.book.specs.Reading.{place, isRuleAt, nodesIn, rulesIn, ruleOfBy, rulesBy, rules, tableOf, nameFaultBy, rowsBy, rows, faultBy, fault, headFault, refused, accepted, finishedBy, alongBy, readingBy, reading}
 use Rattle.book.specs.Keeps.{Kept, Along, over, on, Keeps}
 use Rattle.book.specs.Chain.{OnChain, head, next, ReadBy, start, linked, then}
 use Rattle.book.specs.Code.Steps.{entered, added, begun}
-use Rattle.book.specs.Writing.{headEntry, nodeEntry, ruleEntry, many, linkAfter, entryFor, bookOf, YieldedBy}
+use Rattle.book.specs.Writing.{headEntry, many, entryFor, bookOf, YieldedBy}
 use Rattle.book.specs.OneByte.{OneByteSound, Large, NoneLarge, FormTried, FirstRefused, OneByteReader}
 use Rattle.book.proofs.Tests.{head-clear}
 use Rattle.book.proofs.Among.{collect-each}
 use Rattle.book.proofs.Kept.{keeping}
 use Rattle.book.proofs.Stands.{ruleIn, names-of}
+use Rattle.book.proofs.Along.{reading-begins, head-none, along-ends, along-stops, along-goes}
 use Rattle.book.proofs.Going.{At, fuelled, starts, further}
-use Rattle.book.proofs.Accepts.{none, head-of, accepted-keeps, keeps-accepted}
+use Rattle.book.proofs.Accepts.{head-of, accepted-keeps, keeps-accepted}
 use Rattle.book.proofs.Sound.{byte-at}
+use Rattle.book.proofs.Writes.{entry-by}
 use Rattle.book.proofs.Records.{entry-of}
 use Rattle.book.proofs.Complete.{sound-bytes, sound-reads, sound-exactly}
 use Rattle.book.proofs.Chain.{All, all-none, all-at, all-snoc, collect-same, reading-alike, read-on-chain}
@@ -122,34 +123,20 @@ module _ (s : List ℕ) where
     at : At s fuel b walk r
     same : alongBy OneByte s fuel b r ≡ readingBy OneByte s
 
-  begins : (names : Naming) → headFault s ≡ 0 → alongBy names s 255 (0 ∷ []) (entryOf s 0 .next) ≡ readingBy names s
-  unfolding readingBy
-  begins names n = rw n
-
-  begun-well : (names : Naming) → readingBy names s .number ≡ 0 → headFault s ≡ 0
-  unfolding readingBy
-  begun-well names h = none (headFault s) 0 (alongBy names s 255 (0 ∷ []) (entryOf s 0 .next)) h
-
   comes : {b : List ℕ} {r : ℕ} → ReadBy OneByte s b r → ¬ (r ≡ 0) → Comes b r
-  unfolding alongBy
   comes start z = absurd (z refl)
-  comes (linked n) z = record { fuel = 255; walk = begun; at = starts s (head-clear s n); same = begins OneByte n }
+  comes (linked n) z = record { fuel = 255; walk = begun; at = starts s (head-clear s n); same = reading-begins OneByte s n }
   comes (then {before = b} {r = r} o y n) z = let c = comes o y in go (c .fuel) (c .at) (c .same)
     where
       go : (f : ℕ) {w : Walk} → At s f b w r → alongBy OneByte s f b r ≡ readingBy OneByte s → Comes (b ++ (r ∷ [])) (entryOf s r .next)
       go zero a m = absurd (omega (arith, fuelled a y))
       go (suc f) {w} a m =
-          record { fuel = f; walk = added (entered w r) r (entryOf s r); at = further a y (clear-now o n); same = rw (ne-eqb r 0 y, n) at m }
+          record { fuel = f; walk = added (entered w r) r (entryOf s r); at = further a y (clear-now o n); same = sym (along-goes OneByte s b r f y n) ∙ m }
 
   module _ {b : List ℕ} {r : ℕ} (o : ReadBy OneByte s b r) (z : ¬ (r ≡ 0)) where
     -- a fault that it finds is its answer
     stops : ¬ (faultBy OneByte s b r ≡ 0) → readingBy OneByte s ≡ refused (faultBy OneByte s b r) r
-    unfolding alongBy
-    stops q = let c = comes o z in go (c .fuel) (fuelled (c .at) z) (c .same)
-      where
-        go : (f : ℕ) → 0 < f → alongBy OneByte s f b r ≡ readingBy OneByte s → readingBy OneByte s ≡ refused (faultBy OneByte s b r) r
-        go zero h m = absurd (omega arith)
-        go (suc f) h m = sym m ∙ rw (ne-eqb r 0 z, ne-eqb (faultBy OneByte s b r) 0 q)
+    stops q = let c = comes o z in sym (c .same) ∙ along-stops OneByte s b r (c .fuel) (fuelled (c .at) z) z q
 
     -- where it accepts, there is none
     none-found : readingBy OneByte s .number ≡ 0 → faultBy OneByte s b r ≡ 0
@@ -199,7 +186,7 @@ module _ (s : List ℕ) (bytes : Bytes s) where
       where
         go : ReadAt r → (x : Bool) → eqb r 0 ≡ x → ReadAt (entryOf s r .next)
         go c true e =
-            subst (λ (q : ℕ). ReadAt (entryOf s q .next)) (sym (eqb-true r 0 e)) (record { before = 0 ∷ []; read = linked (begun-well s OneByte h) })
+            subst (λ (q : ℕ). ReadAt (entryOf s q .next)) (sym (eqb-true r 0 e)) (record { before = 0 ∷ []; read = linked (head-none OneByte s h) })
         go c false e = let z = eqb-false r 0 e in record { before = c .before ++ (r ∷ []); read = then (c .read) z (none-found s (c .read) z h) }
 
     none-large : NoneLarge s
@@ -207,7 +194,7 @@ module _ (s : List ℕ) (bytes : Bytes s) where
       where
         go : ReadAt r → (x : Bool) → eqb r 0 ≡ x → ⊥
         go c true e =
-            let k = head-of (entryOf s 0) (head-clear s (begun-well s OneByte h) .head) .kind in
+            let k = head-of (entryOf s 0) (head-clear s (head-none OneByte s h) .head) .kind in
             omega (arith, subst (λ (q : ℕ). entryOf s q .kind ≡ 11) (eqb-true r 0 e) (l .rule))
         go c false e = large-upper l (plain-tried s (c .before) r (none-found s (c .read) (eqb-false r 0 e) h))
 
@@ -231,9 +218,7 @@ module _ (s : List ℕ) (bytes : Bytes s) where
   Either b r = FirstRefused s ⊎ ((f : ℕ) → alongBy OneByte s f b r ≡ alongBy TwoBytes s f b r)
 
   ended : {b : List ℕ} → ReadBy OneByte s b 0 → (f : ℕ) → alongBy OneByte s f b 0 ≡ alongBy TwoBytes s f b 0
-  unfolding alongBy
-  ended {b} o zero = finished-same s b (plain-before s o)
-  ended {b} o (suc f) = finished-same s b (plain-before s o)
+  ended {b} o f = along-ends OneByte s b 0 f refl ∙ finished-same s b (plain-before s o) ∙ sym (along-ends TwoBytes s b 0 f refl)
 
   module _ {b : List ℕ} {r : ℕ} (o : ReadBy OneByte s b r) (z : ¬ (r ≡ 0)) (k : Kept s b r (entryOf s r)) where
     now : fault s b r ≡ 0
@@ -257,7 +242,7 @@ module _ (s : List ℕ) (bytes : Bytes s) where
         where
           go : (f : ℕ) → alongBy OneByte s f b r ≡ alongBy TwoBytes s f b r
           go zero = finished-same s b (plain-before s o)
-          go (suc f) = rw (ne-eqb r 0 z, before, now) (g f)
+          go (suc f) = along-goes OneByte s b r f z before ∙ g f ∙ sym (along-goes TwoBytes s b r f z now)
 
   first-along : {b : List ℕ} {r : ℕ} {chain : List ℕ} → Along s b r chain → ReadBy OneByte s b r → Either b r
   unfolding Either
@@ -268,9 +253,9 @@ module _ (s : List ℕ) (bytes : Bytes s) where
   accepted-now : reading s .number ≡ 0 → (r : ℕ) → OnChain s r → Large s r → FirstRefused s
   unfolding Either
   accepted-now h r o l =
-      let n = begun-well s TwoBytes h in
+      let n = head-none TwoBytes s h in
       ⊎-elim (λ x. x)
-      (λ g. absurd (none-large (ap (λ (x : Reading). x .number) (sym (begins s OneByte n) ∙ g 255 ∙ begins s TwoBytes n) ∙ h) r o l))
+      (λ g. absurd (none-large (ap (λ (x : Reading). x .number) (sym (reading-begins OneByte s n) ∙ g 255 ∙ reading-begins TwoBytes s n) ∙ h) r o l))
       (first-along (accepted-keeps s h .along) (linked n))
 
 -- ---- soundness as it was
@@ -308,14 +293,9 @@ yielded-sound t y =
 -- the book of a table without a large name has none
 module _ (t : Table) (y : OneByteSound t) where
   entry-small : (r : ℕ) → r ≤ many t → entryFor t r .kind ≡ 11 → nameOf (entryFor t r) ≤ 255
-  entry-small r h = go (eqb r 0) refl (leb r (t .«node_count»)) refl
-    where
-      go : (a : Bool) → eqb r 0 ≡ a → (b : Bool) → leb r (t .«node_count») ≡ b
-          → pick a (headEntry (linkAfter t r)) (pick b (nodeEntry (nodeAt t (r - 1)) (linkAfter t r)) (ruleEntry (ruleAt t (r - 1 - t .«node_count»)) (linkAfter t r))) .kind ≡ 11
-          → nameOf (pick a (headEntry (linkAfter t r)) (pick b (nodeEntry (nodeAt t (r - 1)) (linkAfter t r)) (ruleEntry (ruleAt t (r - 1 - t .«node_count»)) (linkAfter t r)))) ≤ 255
-      go true e b f k = absurd (omega arith)
-      go false e true f k = absurd (omega (arith, y .sound .node (r - 1) (omega (arith, eqb-false r 0 e, leb-true r (t .«node_count») f)) .node))
-      go false e false f k = omega (arith, y .small (r - 1 - t .«node_count») (omega (arith, leb-false r (t .«node_count») f)))
+  entry-small r =
+      entry-by t r (λ e. e .kind ≡ 11 → nameOf e ≤ 255) (λ k. absurd (omega arith)) (λ p l k. absurd (omega (arith, y .sound .node p l .node)))
+      (λ q l k. omega (arith, y .small q l))
 
   book-small : (r : ℕ) → entryOf (bookOf t) r .kind ≡ 11 → nameOf (entryOf (bookOf t) r) ≤ 255
   unfolding bookOf

@@ -5,7 +5,7 @@ use mathlib.Core.List.{List, [], _∷_, _++_, append-assoc}
 use Prim.Native.Nat.{ℕ, suc, _+_, _-_, _*_, _≤_, _<_}
 use native.Mathlib.Numerals.{add-one}
 use native.Mathlib.Omega.{arith}
-use borrow.Author.Tests.{ne-eqb, eq-eqb, le-leb, lt-leb, lt-ltb, le-ltb}
+use borrow.Author.Tests.{ne-eqb, eq-eqb, le-leb, lt-leb, lt-ltb, le-ltb, eqb-false, leb-true, leb-false}
 use lib.Dec.{leb, eqb}
 use lib.ListN.{length, take, drop}
 use lib.Seq.{take-at}
@@ -33,15 +33,19 @@ module _ (t : Table) (k : ℕ) where
   pub rule-for : t .«node_count» < k → entryFor t k ≡ ruleEntry (ruleAt t (k - 1 - t .«node_count»)) (linkAfter t k)
   rule-for h = rw (ne-eqb k 0 (omega arith), lt-leb k (t .«node_count») h)
 
-  pub next-for : entryFor t k .next ≡ linkAfter t k
-  next-for = go (eqb k 0) (leb k (t .«node_count»))
+  -- what the head, each node and each rule has there, the record has
+  pub entry-by : (P : Entry → Type 0) → P (headEntry (linkAfter t k)) → ((p : ℕ) → p < t .«node_count» → P (nodeEntry (nodeAt t p) (linkAfter t k)))
+      → ((q : ℕ) → q < t .«rule_count» → P (ruleEntry (ruleAt t q) (linkAfter t k))) → k ≤ many t → P (entryFor t k)
+  entry-by P head node rule h = go (eqb k 0) refl (leb k (t .«node_count»)) refl
     where
-      go : (a b : Bool)
-          → pick a (headEntry (linkAfter t k)) (pick b (nodeEntry (nodeAt t (k - 1)) (linkAfter t k)) (ruleEntry (ruleAt t (k - 1 - t .«node_count»)) (linkAfter t k))) .next
-          ≡ linkAfter t k
-      go true b = refl
-      go false true = refl
-      go false false = refl
+      go : (a : Bool) → eqb k 0 ≡ a → (b : Bool) → leb k (t .«node_count») ≡ b
+          → P (pick a (headEntry (linkAfter t k)) (pick b (nodeEntry (nodeAt t (k - 1)) (linkAfter t k)) (ruleEntry (ruleAt t (k - 1 - t .«node_count»)) (linkAfter t k))))
+      go true e b f = head
+      go false e true f = node (k - 1) (omega (arith, eqb-false k 0 e, leb-true k (t .«node_count») f))
+      go false e false f = rule (k - 1 - t .«node_count») (omega (arith, leb-false k (t .«node_count») f))
+
+  pub next-for : k ≤ many t → entryFor t k .next ≡ linkAfter t k
+  next-for = entry-by (λ e. e .next ≡ linkAfter t k) refl (λ p l. refl) (λ q l. refl)
 
 -- ---- the operands of a node, and what a rule watches
 pub operands-small : (t : Table) → Sound t → (p : ℕ) → p < t .«node_count» → (nodeAt t p .left < 64) × (nodeAt t p .right < 64)
