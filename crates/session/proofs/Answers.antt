@@ -1,12 +1,10 @@
--- What the parts of open, feed, close and a change answer, put together. Assumes nothing.
+-- What the parts of open, feed and close answer, put together. Assumes nothing.
 use Prim.Native.Nat.{ℕ, ◌+◌, ◌-◌, ◌≤◌, ◌<◌, min}
-use native.Mathlib.Nat.{zero-add, add-zero}
 use native.Mathlib.Omega.{arith}
 use mathlib.Core.Path.{◌≡◌, refl, sym, ap, ap₂, ◌∙◌}
 use mathlib.Core.Bool.{Bool, true, false, not, ◌||◌}
-use mathlib.Core.Logic.{⊎_elim}
 use mathlib.Core.List.{List, [], ◌++◌, append_assoc, append-nil}
-use borrow.Author.Tests.{lt-ltb, le-ltb, lt-leb, eq-eqb, ne_eqb, not-false, leb-false, ltb-false}
+use borrow.Author.Tests.{lt-leb, eq-eqb, ne_eqb, not-false, leb-false, ltb-false}
 use borrow.Rule.Slice.PartMut.{mid_of, put_mid}
 use lib.Dec.{ltb, leb, eqb}
 use lib.ListN.{length, take, drop, replicate, length-append, length-take, length-drop}
@@ -15,20 +13,19 @@ use Rattle.limits.specs.Limits.{max_seen}
 use Rattle.lists.specs.Choice.{pick, first}
 use Rattle.lists.specs.Sequence.{padded}
 use Rattle.lists.proofs.Rows.{no_row}
-use Rattle.lists.proofs.Tests.{same_test, ltb_iff, or_left, or_right, lt_or_le}
+use Rattle.lists.proofs.Tests.{same_test, ltb_iff, or_left, or_right}
 use Rattle.mltl.specs.Mltl.{delay}
 use Rattle.table.specs.declared.Table.{Table}
 use Rattle.table.specs.declared.RuleDelay.{RuleDelay}
-use Rattle.table.specs.Nodes.{formula_at, rule_at, watched_formula, wait_of}
-use Rattle.table.specs.Sound.{SoundBy, is_sound_by, delay_number_by, rule_delay_by, delay_number, rule_delay, rule_rows}
+use Rattle.table.specs.Nodes.{formula_at, rule_at, wait_of}
+use Rattle.table.specs.Sound.{SoundBy, is_sound_by, delay_number_by, rule_delay_by, delay_number, rule_delay}
 use Rattle.table.proofs.Soundness.{wait_sound_iff, sound_now, watched_short}
 use Rattle.verdict.specs.Verdict.{with_verdicts, cleared, ready, Judged}
 use Rattle.verdict.proofs.Answers.{ready-sound}
 use Rattle.session.specs.declared.Session.{Session}
 use Rattle.session.specs.declared.Opening.{Opening}
-use Rattle.session.specs.Session.{Effect, formula_of, delay_of, no_session, opening_by, opening, refused, unfit_by, unfit, elapsed, with_seen, verdict_words, feed_rows, feed_number_by, fed, feeding_by, feeding, close_rows, close_number_by, closed, closing_by, session_with, opened, StepEffect, step_effect, change_rows, change_number_by, changed, changing_by, changing}
-use Rattle.session.specs.Code.Steps.{Writable, Fit, Feedable, Closable, Changeable, change_steps}
-use Rattle.session.proofs.History.{drop_take}
+use Rattle.session.specs.Session.{Effect, formula_of, delay_of, no_session, opening_by, opening, refused, unfit_by, with_seen, verdict_words, feed_rows, feed_number_by, fed, feeding_by, feeding, close_rows, close_number_by, closed, closing_by}
+use Rattle.session.specs.Code.Steps.{Writable, Fit, Feedable, Closable}
 
 -- ---- open
 module _ (t : Table) (r : ℕ) {d : RuleDelay} (e : d ≡ rule_delay t r) where
@@ -39,22 +36,16 @@ module _ (t : Table) (r : ℕ) {d : RuleDelay} (e : d ≡ rule_delay t r) where
       let z : eqb (delay_number t r) 0 ≡ false = ne_eqb (delay_number t r) 0 (λ k. n (q ∙ k)) in
       rw (q, p, z)
 
-  pub open-accepted : d.number ≡ 0 → ◌≡◌ {A = Opening} (record { number = 0; session = opened t r }) (opening t r)
+  pub open-accepted : d.number ≡ 0 → ◌≡◌ {A = Opening} (record { number = 0; session = record { table = t; rule = r; seen = 0 } }) (opening t r)
   unfolding opening_by rule_delay_by
   open-accepted n =
       let q : delay_number t r ≡ 0 = sym (ap (λ (x : RuleDelay). x.number) e) ∙ n in
       rw q
 
 -- ---- the numbers
--- the first tick, the states seen and k more pass the limit
-pub over-limit : (n f k : ℕ) → f ≤ max_seen → (ltb (max_seen - f) n || ltb (max_seen - f - n) k) ≡ ltb max_seen (f + n + k)
-over-limit n f k h =
-    ⊎_elim
-    (λ (l : max_seen - f < n). let p : max_seen < f + n + k = omega arith in rw (lt-ltb (max_seen - f) n l, lt-ltb max_seen (f + n + k) p))
-    (λ (l : n ≤ max_seen - f).
-    rw (le-ltb (max_seen - f) n l)
-    (same_test _ _ (ltb_iff (max_seen - f - n) k) (ltb_iff max_seen (f + n + k)) (λ p. omega arith) (λ p. omega arith)))
-    (lt_or_le (max_seen - f) n)
+-- the count passes the limit
+pub over-limit : (seen k : ℕ) → seen ≤ max_seen → ltb (max_seen - seen) k ≡ ltb max_seen (seen + k)
+over-limit seen k h = same_test _ _ (ltb_iff (max_seen - seen) k) (ltb_iff max_seen (seen + k)) (λ l. omega arith) (λ l. omega arith)
 
 module _ (old : Bool) where
   -- a session that is not unfit: its table is sound, and its rule is there
@@ -91,18 +82,18 @@ module _ (old : Bool) where
     unfolding rule_delay_by
     delay_is u = let t = fit-tests s u in ap (λ (x : RuleDelay). x.delay) e ∙ rw (t.0, t.1)
 
-    pub fit_is : unfit_by (wait_of old) s ≡ false → {h x : List ℕ} → 4095 ≤ length h → 5280 ≤ length x → Fit s.table s.rule d.delay h x
+    pub fit_is : unfit_by (wait_of old) s ≡ false → {h x : List ℕ} → 4095 ≤ length h → 5280 ≤ length x → Fit s d.delay h x
     fit_is u p q =
         let f = fit-sound s u in
         record { sound = sound_now old s.table f.0; rule = f.1; short = omega (arith, delay_is u, unfit-short s u); history_fits = p; scratch_fits = q }
 
   -- ---- a close that is refused, and one that is accepted, by its number
-  module _ (s : Session) (h x o : List ℕ) {n : ℕ} (e : n ≡ close_number_by (wait_of old) max_seen s (length h) (length x) (length o)) where
-    pub closed-refused : (n ≡ 0 → ⊥) → refused n s h x o ≡ closing_by (wait_of old) max_seen s h x o
+  module _ (s : Session) (h x o : List ℕ) {n : ℕ} (e : n ≡ close_number_by (wait_of old) s (length h) (length x) (length o)) where
+    pub closed-refused : (n ≡ 0 → ⊥) → refused n s h x o ≡ closing_by (wait_of old) s h x o
     unfolding closing_by
     closed-refused r = rw (← e, ne_eqb n 0 r)
 
-    pub closed_accepted : {z : Effect} {d : ℕ} → n ≡ 0 → d ≡ wait_of old (formula_of s) → z ≡ closed d s h x o → z ≡ closing_by (wait_of old) max_seen s h x o
+    pub closed_accepted : {z : Effect} {d : ℕ} → n ≡ 0 → d ≡ wait_of old (formula_of s) → z ≡ closed d s h x o → z ≡ closing_by (wait_of old) s h x o
     unfolding closing_by
     closed_accepted r q p = rw (← e, eq-eqb n 0 r, ← q) p
 
@@ -112,18 +103,18 @@ module _ (s : Session) (block h x o : List ℕ) {n : ℕ} (e : n ≡ feed_number
   unfolding feeding_by
   fed_refused r = rw (← e, ne_eqb n 0 r)
 
-  pub fed_accepted : {z : StepEffect} {d : ℕ} → n ≡ 0 → d ≡ delay_of s → z ≡ step_effect (fed d s block h x o) → z ≡ step_effect (feeding s block h x o)
+  pub fed_accepted : {z : Effect} {d : ℕ} → n ≡ 0 → d ≡ delay_of s → z ≡ fed d s block h x o → z ≡ feeding s block h x o
   unfolding feeding_by
   fed_accepted r q p = rw (← e, eq-eqb n 0 r, ← q) p
 
 -- what the number 0 says
-pub record FeedFits (limit : ℕ) (bad : Bool) (n k h x o : ℕ) : Type 0 where
+pub record FeedFits (limit : ℕ) (bad : Bool) (seen k h x o : ℕ) : Type 0 where
   pub fit : bad ≡ false
   pub few : k ≤ 1024
   pub history : 4095 ≤ h
   pub scratch : 5280 ≤ x
   pub out : 16 ≤ o
-  pub count : n + k ≤ limit
+  pub count : seen + k ≤ limit
 
 buffers : (h x o m : ℕ) → (ltb h 4095 || ltb x 5280 || ltb o m) ≡ false → (4095 ≤ h) × (5280 ≤ x) × (m ≤ o)
 buffers h x o m e =
@@ -133,49 +124,23 @@ buffers h x o m e =
       ltb-false o m (or_right (ltb h 4095 || ltb x 5280) (ltb o m) e),
     )
 
-pub feed-fits : (limit : ℕ) (bad : Bool) (n k h x o : ℕ) → first (feed_rows limit bad n k h x o) ≡ 0 → FeedFits limit bad n k h x o
-feed-fits limit bad n k h x o e =
-    let no = no_row (feed_rows limit bad n k h x o) refl e in
+pub feed-fits : (limit : ℕ) (bad : Bool) (seen k h x o : ℕ) → first (feed_rows limit bad seen k h x o) ≡ 0 → FeedFits limit bad seen k h x o
+feed-fits limit bad seen k h x o e =
+    let no = no_row (feed_rows limit bad seen k h x o) refl e in
     let b = buffers h x o 16 (no 2) in
-    record { fit = no 0; few = ltb-false 1024 k (no 1); history = b.0; scratch = b.1; out = b.2; count = ltb-false limit (n + k) (no 3) }
+    record { fit = no 0; few = ltb-false 1024 k (no 1); history = b.0; scratch = b.1; out = b.2; count = ltb-false limit (seen + k) (no 3) }
 
-pub record CloseFits (limit : ℕ) (bad : Bool) (n h x o : ℕ) : Type 0 where
+pub record CloseFits (bad : Bool) (h x o : ℕ) : Type 0 where
   pub fit : bad ≡ false
   pub history : 4095 ≤ h
   pub scratch : 5280 ≤ x
   pub out : 64 ≤ o
-  pub count : n ≤ limit
 
-pub close_fits : (limit : ℕ) (bad : Bool) (n h x o : ℕ) → first (close_rows limit bad n h x o) ≡ 0 → CloseFits limit bad n h x o
-close_fits limit bad n h x o e =
-    let no = no_row (close_rows limit bad n h x o) refl e in
+pub close_fits : (bad : Bool) (h x o : ℕ) → first (close_rows bad h x o) ≡ 0 → CloseFits bad h x o
+close_fits bad h x o e =
+    let no = no_row (close_rows bad h x o) refl e in
     let b = buffers h x o 64 (no 1) in
-    record { fit = no 0; history = b.0; scratch = b.1; out = b.2; count = rw add-zero at (ltb-false limit (n + 0) (no 2)) }
-
--- of a change the new rule is there, in a sound table
-pub record ChangeFits (limit : ℕ) (bad sound none : Bool) (n h x o : ℕ) : Type 0 where
-  pub fit : bad ≡ false
-  pub sound-is : sound ≡ true
-  pub there : none ≡ false
-  pub history : 4095 ≤ h
-  pub scratch : 5280 ≤ x
-  pub out : 64 ≤ o
-  pub count : n ≤ limit
-
-pub change-fits : (limit : ℕ) (bad sound none : Bool) (n h x o : ℕ) → first (change_rows limit (bad || not sound) none n h x o) ≡ 0
-    → ChangeFits limit bad sound none n h x o
-change-fits limit bad sound none n h x o e =
-    let no = no_row (change_rows limit (bad || not sound) none n h x o) refl e in
-    let b = buffers h x o 64 (no 2) in
-    record {
-      fit = or_left bad (not sound) (no 0);
-      sound-is = not-false sound (or_right bad (not sound) (no 0));
-      there = no 1;
-      history = b.0;
-      scratch = b.1;
-      out = b.2;
-      count = rw add-zero at (ltb-false limit (n + 0) (no 3));
-    }
+    record { fit = no 0; history = b.0; scratch = b.1; out = b.2 }
 
 -- ---- the words of out
 module _ (p out mid : List ℕ) (m w : ℕ) (long : length p ≡ w) (room : w ≤ m) (fits : m ≤ length out) (e : mid ≡ p ++ drop w out) where
@@ -205,15 +170,15 @@ judged-words {t} {place} {trace} {count} {m} {scratch} {out} w j =
     (rw r at j.clears, rw r at j.tells)
 
 -- ---- what history holds is short
-pub kept-short : {t : Table} {r d n : ℕ} {h x : List ℕ} (seen : ℕ) → Fit t r d h x → n ≡ min seen d → n ≤ 4095
-kept-short seen f e = omega (arith, e, f.short)
+pub kept-short : {s : Session} {d n : ℕ} {h x : List ℕ} → Fit s d h x → n ≡ min s.seen d → n ≤ 4095
+kept-short f e = omega (arith, e, f.short)
 
 -- the rule is one of 8, and it watches one of 64 nodes
-pub fit-rule : {t : Table} {r d : ℕ} {h x : List ℕ} → Fit t r d h x → r < 8
+pub fit-rule : {s : Session} {d : ℕ} {h x : List ℕ} → Fit s d h x → s.rule < 8
 fit-rule f = omega (arith, f.rule, f.sound.few_rules)
 
-pub fit-node : {t : Table} {r d : ℕ} {h x : List ℕ} → Fit t r d h x → (rule_at t r).watched < 64
-fit-node {r = r} f = omega (arith, (f.sound.rule r f.rule).watched, f.sound.few_nodes)
+pub fit-node : {s : Session} {d : ℕ} {h x : List ℕ} → Fit s d h x → (rule_at s.table s.rule).watched < 64
+fit-node {s} f = omega (arith, (f.sound.rule s.rule f.rule).watched, f.sound.few_nodes)
 
 -- the first n of a list, as a part from 0 on is lent
 pub lent-part : (n : ℕ) (xs : List ℕ) → take (n - 0) xs ≡ take n xs
@@ -255,7 +220,7 @@ module _ {s : Session} {d : ℕ} {block h x o : List ℕ} (f : Feedable s d bloc
     pub feed_is : {left : ℕ} {older h' x' o' : List ℕ} → left ≡ min (s.seen + k) d → older ≡ take hh h
         → (x' ≡ cleared x) × (o' ≡ verdict_words 16 (a - b) (formula_at s.table.nodes place) (older ++ block) o)
         → h' ≡ drop (hh + k - left) trace ++ drop left h
-        → ◌≡◌ {A = StepEffect} (record { step = record { number = 0; count = a - b }; history = h'; scratch = x'; out = o' }) (step_effect (fed d s block h x o))
+        → ◌≡◌ {A = Effect} (record { answer = record { number = 0; count = a - b; session = with_seen s (s.seen + k) }; history = h'; scratch = x'; out = o' }) (fed d s block h x o)
     feed_is {left} t e (ex, eo) eh =
         let m : hh + k - left ≡ length trace - d = omega (arith, long) in
         rw (ex, eo, e, eh, m, p, q, r, t)
@@ -284,90 +249,5 @@ module _ {s : Session} {d : ℕ} {h x o : List ℕ} (f : Closable s d h x o) whe
 
     pub close_is : {older none x' o' : List ℕ} → older ≡ take count h → none ≡ []
         → (x' ≡ cleared x) × (o' ≡ verdict_words 64 count (formula_at s.table.nodes spot) (older ++ none) o)
-        → ◌≡◌ {A = Effect} (record { answer = record { number = 0; count = count; session = opened s.table s.rule }; history = h; scratch = x'; out = o' }) (closed d s h x o)
+        → ◌≡◌ {A = Effect} (record { answer = record { number = 0; count = count; session = with_seen s 0 }; history = h; scratch = x'; out = o' }) (closed d s h x o)
     close_is e z (ex, eo) = rw (ex, eo, e, z, append-nil, p)
-
--- ---- a change
--- its number, by that of the new rule's delay
-pub asked-number : (bad sound none : Bool) (asked n h x o : ℕ) → asked ≡ pick (not sound) 25 (pick none 21 0)
-    → first (change_steps bad asked n h x o) ≡ first (change_rows max_seen (bad || not sound) none n h x o)
-asked-number true sound none asked n h x o e = refl
-asked-number false true true asked n h x o e = rw e
-asked-number false true false asked n h x o e = rw e
-asked-number false false none asked n h x o e = rw e
-
-module _ (s : Session) (t : Table) (r : ℕ) {d d' : RuleDelay} (e : d ≡ rule_delay s.table s.rule) (e' : d' ≡ rule_delay t r) where
-  pub change-asked : {n : ℕ} (h x o : ℕ) → n ≡ first (change_steps (not (eqb d.number 0)) d'.number (elapsed s) h x o) → n ≡ change_number_by delay max_seen s t r h x o
-  change-asked h x o q =
-      q ∙ ap (λ (b : Bool). first (change_steps b d'.number (elapsed s) h x o)) (unfit-is false s e)
-      ∙ asked-number (unfit s) (is_sound_by delay t) (leb t.rule_count r) d'.number (elapsed s) h x o (delay-number false (opened t r) e')
-
-  pub change-fit : {h x o : List ℕ} → ChangeFits max_seen (unfit s) (is_sound_by delay t) (leb t.rule_count r) (elapsed s) (length h) (length x) (length o)
-      → Changeable s d.delay t r d'.delay h x o
-  change-fit f = record {
-    fit = fit_is false s e f.fit f.history f.scratch;
-    new = fit_is false (opened t r) e' (rw (f.sound-is, f.there)) f.history f.scratch;
-    seen = f.count;
-    out_fits = f.out;
-  }
-
-  pub change-delays : unfit s ≡ false → is_sound_by delay t ≡ true → leb t.rule_count r ≡ false → (d.delay ≡ delay_of s) × (d'.delay ≡ delay (watched_formula t r))
-  change-delays u v w = (delay_is false s e u, delay_is false (opened t r) e' (rw (v, w)))
-
-module _ (s : Session) (t : Table) (r : ℕ) (h x o : List ℕ) {n : ℕ} (e : n ≡ change_number_by delay max_seen s t r (length h) (length x) (length o)) where
-  pub changed-refused : (n ≡ 0 → ⊥) → refused n s h x o ≡ changing s t r h x o
-  unfolding changing_by
-  changed-refused q = rw (← e, ne_eqb n 0 q)
-
-  pub changed-accepted : {z : Effect} {d d' : ℕ} → n ≡ 0 → d ≡ delay_of s → d' ≡ delay (watched_formula t r) → z ≡ changed d d' s t r h x o → z ≡ changing s t r h x o
-  unfolding changing_by
-  changed-accepted q a b p = rw (← e, eq-eqb n 0 q, ← a, ← b) p
-
--- the counts of a fresh session that is fed hh states
-module _ (hh d : ℕ) where
-  left_over : {count left : ℕ} → count ≡ hh - d → left ≡ min hh d → hh - count ≡ left
-  left_over p q = omega arith
-
-  fresh-count : {count : ℕ} → count ≡ hh - d → (0 + hh - d) - (0 - d) ≡ count
-  fresh-count p = omega arith
-
-  fresh-left : {left : ℕ} → left ≡ min hh d → min (0 + hh) d ≡ left
-  fresh-left p = omega arith
-
-moved-tick : (f seen d : ℕ) {hh f' : ℕ} → hh ≡ min seen d → f' ≡ f + (seen - hh) → f + seen - min seen d ≡ f'
-moved-tick f seen d p q = omega arith
-
--- an accepted one: hh states are kept, and `left` of them afterwards
-module _ {s : Session} {d : ℕ} {t : Table} {r d' : ℕ} {h x o : List ℕ} (f : Changeable s d t r d' h x o) where
-  abbrev watched : ℕ
-  watched = (rule_at t r).watched
-
-  module _ {hh count : ℕ} (p : hh ≡ min s.seen d) (q : count ≡ hh - d') where
-    held-length : length (take hh h) ≡ hh
-    held-length = let g = f.fit.short in let w = f.fit.history_fits in length-take hh h ∙ omega arith
-
-    pub change-writes : {older none : List ℕ} → older ≡ take hh h → none ≡ [] → Writable t watched (older ++ none) count 64 x o
-    change-writes e z =
-        let g = f.fit.short in
-        let l : length (take hh h ++ []) ≡ hh = ap length (append-nil (take hh h)) ∙ held-length in
-        rw (e, z)
-        (record {
-          sound = f.new.sound;
-          node = (f.new.sound.rule r f.new.rule).watched;
-          short = omega (arith, l);
-          ticks = omega (arith, l);
-          room = omega arith;
-          scratch_fits = f.fit.scratch_fits;
-          out_fits = f.out_fits;
-        })
-
-    pub change-is : {left first' : ℕ} {older none h' x' o' : List ℕ} → left ≡ min hh d' → first' ≡ s.first_tick + (s.seen - hh) → older ≡ take hh h → none ≡ []
-        → (x' ≡ cleared x) × (o' ≡ verdict_words 64 count (formula_at t.nodes watched) (older ++ none) o)
-        → h' ≡ take left (drop count h) ++ drop left h
-        → ◌≡◌ {A = Effect} (record { answer = record { number = 0; count = count; session = session_with t r hh first' }; history = h'; scratch = x'; out = o' }) (changed d d' s t r h x o)
-    change-is {left} {first'} a b e z (ex, eo) eh =
-        let kept : take (min s.seen d) h ≡ take hh h = ap (λ (n : ℕ). take n h) (sym p) in
-        let zero : min 0 d' ≡ 0 = omega arith in
-        let none_yet : take (min 0 d') h ++ take hh h ≡ take hh h = ap (λ (n : ℕ). take n h ++ take hh h) zero in
-        let y : drop (hh - d') (take hh h) ≡ take left (drop count h) = rw (← q) (drop_take count hh h ∙ ap (λ (n : ℕ). take n (drop count h)) (left_over hh d' q a)) in
-        rw (ex, eo, e, z, eh, append-nil, kept, none_yet, held-length, fresh-count hh d' q, fresh-left hh d' a, zero-add hh, moved-tick s.first_tick s.seen d p b, y)

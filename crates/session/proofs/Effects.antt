@@ -16,11 +16,11 @@ use Rattle.lists.proofs.Sequences.{ticks_ext}
 use Rattle.lists.proofs.Columns.{bit_at_same, length_packed, packed_in}
 use Rattle.mltl.specs.Mltl.{Formula, holds}
 use Rattle.table.specs.declared.Table.{Table}
-use Rattle.table.specs.Nodes.{watched_formula, wait_of}
+use Rattle.table.specs.Nodes.{wait_of}
 use Rattle.table.specs.Sound.{SoundBy, delay_number_by}
 use Rattle.table.proofs.Soundness.{rule_there}
 use Rattle.session.specs.declared.Session.{Session}
-use Rattle.session.specs.Session.{Effect, formula_of, refused, unfit_by, verdict_words, feed_number_by, fed, feeding_by, close_number_by, closed, closing_by, change_number_by, changed, changing_by, opened, opening_by}
+use Rattle.session.specs.Session.{Effect, formula_of, refused, unfit_by, verdict_words, feed_number_by, fed, feeding_by, close_number_by, closed, closing_by, opening_by}
 use Rattle.session.proofs.Answers.{sound-fit}
 
 -- a choice between an accepted effect, whose number is 0, and a refused one
@@ -58,40 +58,20 @@ module _ (wait : Formula → ℕ) (s : Session) (h x o : List ℕ) where
     unfolding feeding_by
     feed_refused_lem e = refused_is n (fed d s block h x o) refl s h x o e
 
-  module _ (limit : ℕ) where
-    abbrev c : ℕ
-    c = close_number_by wait limit s (length h) (length x) (length o)
+  abbrev c : ℕ
+  c = close_number_by wait s (length h) (length x) (length o)
 
-    pub close_number_lem : (closing_by wait limit s h x o).answer.number ≡ c
-    unfolding closing_by
-    close_number_lem = chosen_number c (closed d s h x o) refl s h x o
+  pub close_number_lem : (closing_by wait s h x o).answer.number ≡ c
+  unfolding closing_by
+  close_number_lem = chosen_number c (closed d s h x o) refl s h x o
 
-    pub close_accepted : (closing_by wait limit s h x o).answer.number ≡ 0 → (closing_by wait limit s h x o ≡ closed d s h x o) × (c ≡ 0)
-    unfolding closing_by
-    close_accepted e = accepted_is c (closed d s h x o) refl s h x o e
+  pub close_accepted : (closing_by wait s h x o).answer.number ≡ 0 → (closing_by wait s h x o ≡ closed d s h x o) × (c ≡ 0)
+  unfolding closing_by
+  close_accepted e = accepted_is c (closed d s h x o) refl s h x o e
 
-    pub close_refused : ((closing_by wait limit s h x o).answer.number ≡ 0 → ⊥) → (closing_by wait limit s h x o ≡ refused c s h x o) × (c ≡ 0 → ⊥)
-    unfolding closing_by
-    close_refused e = refused_is c (closed d s h x o) refl s h x o e
-
-  module _ (limit : ℕ) (t : Table) (r : ℕ) where
-    abbrev g : ℕ
-    g = change_number_by wait limit s t r (length h) (length x) (length o)
-
-    abbrev made : Effect
-    made = changed d (wait (watched_formula t r)) s t r h x o
-
-    pub change_number : (changing_by wait limit s t r h x o).answer.number ≡ g
-    unfolding changing_by
-    change_number = chosen_number g made refl s h x o
-
-    pub change_accepted : (changing_by wait limit s t r h x o).answer.number ≡ 0 → (changing_by wait limit s t r h x o ≡ made) × (g ≡ 0)
-    unfolding changing_by
-    change_accepted e = accepted_is g made refl s h x o e
-
-    pub change_refused : ((changing_by wait limit s t r h x o).answer.number ≡ 0 → ⊥) → (changing_by wait limit s t r h x o ≡ refused g s h x o) × (g ≡ 0 → ⊥)
-    unfolding changing_by
-    change_refused e = refused_is g made refl s h x o e
+  pub close_refused : ((closing_by wait s h x o).answer.number ≡ 0 → ⊥) → (closing_by wait s h x o ≡ refused c s h x o) × (c ≡ 0 → ⊥)
+  unfolding closing_by
+  close_refused e = refused_is c (closed d s h x o) refl s h x o e
 
 -- the verdicts in the words that a call writes
 pub words_verdicts : (m count : ℕ) (f : Formula) (trace o : List ℕ) → ticks (bit_at (verdict_words m count f trace o)) count ≡ ticks (holds f trace) count
@@ -105,7 +85,7 @@ words_verdicts m count f trace o = ticks_ext (bit_at (verdict_words m count f tr
 
 -- ---- an accepted open: the session, and a rule of a sound table
 module _ (old : Bool) (t : Table) (r : ℕ) (e : (opening_by (wait_of old) t r).number ≡ 0) where
-  pub opened_is : (opening_by (wait_of old) t r).session ≡ opened t r
+  pub opened_is : (opening_by (wait_of old) t r).session ≡ record { table = t; rule = r; seen = 0 }
   unfolding opening_by
   opened_is = rw (eq-eqb (delay_number_by (wait_of old) t r) 0 e)
 
@@ -119,4 +99,4 @@ module _ (old : Bool) (t : Table) (r : ℕ) (e : (opening_by (wait_of old) t r).
 
   -- so it is fit
   pub opened_fit : unfit_by (wait_of old) (opening_by (wait_of old) t r).session ≡ false
-  opened_fit = rw opened_is (sound-fit old (opened t r) opened_sound opened_rule)
+  opened_fit = rw opened_is (sound-fit old (record { table = t; rule = r; seen = 0 }) opened_sound opened_rule)

@@ -7,7 +7,7 @@ use Rattle.limits.specs.Limits.{max_seen}
 use Rattle.mltl.specs.Mltl.{delay}
 use Rattle.session.specs.declared.Session.{Session}
 use Rattle.session.specs.declared.Step.{Step}
-use Rattle.session.specs.Session.{Effect, StepEffect, step_effect, unfit, elapsed, with_seen, feeding}
+use Rattle.session.specs.Session.{Effect, StepEffect, step_effect, unfit, with_seen, feeding}
 use Rattle.session.proofs.Effects.{feed_accepted, feed_refused_lem}
 use Rattle.session.proofs.Answers.{feed-fits}
 
@@ -37,6 +37,6 @@ module _ (s : Session) (block h x o : List ℕ) {k : Step} {h' x' o' : List ℕ}
   step_accepted r q =
       with_session (q ∙ sym (ap (λ (z : Effect). z.answer.session) (feed_accepted delay s h x o max_seen block (sym step_number ∙ r)).0))
 
-  pub step_fits : k.number ≡ 0 → elapsed s + length block ≤ max_seen
+  pub step_fits : k.number ≡ 0 → s.seen + length block ≤ max_seen
   step_fits r =
-      (feed-fits max_seen (unfit s) (elapsed s) (length block) (length h) (length x) (length o) (feed_accepted delay s h x o max_seen block (sym step_number ∙ r)).1).count
+      (feed-fits max_seen (unfit s) s.seen (length block) (length h) (length x) (length o) (feed_accepted delay s h x o max_seen block (sym step_number ∙ r)).1).count

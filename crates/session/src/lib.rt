@@ -1,23 +1,21 @@
 // Sessions: states come in blocks, and verdicts are given as soon as they are settled.
-ghost use Rattle.std.specs.Prelude.{◌≡◌, ◌++◌, ◌+◌, ◌-◌, ◌≤◌, ltb, length, take, drop};
+ghost use Rattle.std.specs.Prelude.{◌≡◌, ◌++◌, ◌+◌, ◌-◌, ◌≤◌, length, take, drop};
 ghost use Rattle.limits.specs.Limits.{max_block, max_seen};
 ghost use Rattle.lists.specs.Choice.{first};
 ghost use Rattle.table.specs.Nodes.{formula_at, wait_of};
 ghost use Rattle.verdict.specs.Verdict.{cleared};
-ghost use Rattle.session.specs.Session.{session_with, no_session, with_seen, verdict_words, opening, feed_rows, fed, feeding, step_effect, close_rows, closed, closing_by, closing, closing_old, changed, changing};
-ghost use Rattle.session.specs.Code.Steps.{Writable, Feedable, Closable, Changeable, end_rows, change_steps};
+ghost use Rattle.session.specs.Session.{session_with, no_session, with_seen, verdict_words, opening, feed_rows, fed, feeding, step_effect, close_rows, closed, closing_by, closing, closing_old};
+ghost use Rattle.session.specs.Code.Steps.{Writable, Feedable, Closable};
 
 use limits::{CLOSE_WORDS, FEED_WORDS, HISTORY_WORDS, MAX_BLOCK, MAX_SEEN, SCRATCH_WORDS};
 use table::Table;
 
-// Document 01's term: a table, the number of the rule that is watched, and how many states it has seen; and document 02's first tick, the
-// mission's tick of the first of these states.
+// Document 01's term: a table, the number of the rule that is watched, and how many states it has seen.
 #[derive(Drop)]
 pub struct Session {
     pub table: Table,
     pub rule: usize,
     pub seen: u64,
-    pub first_tick: u64,
 }
 
 // The number of a refusal or 0, and the session that is given, or 'no session'.
@@ -43,15 +41,10 @@ pub struct Step {
 }
 
 impl Session {
-    pub fn with(table: Table, rule: usize, seen: u64, first_tick: u64) -> Session
-        ensures { result ≡ session_with table rule seen first_tick }
+    pub fn with(table: Table, rule: usize, seen: u64) -> Session
+        ensures { result ≡ session_with table rule seen }
     {
-        Session {
-            table,
-            rule,
-            seen,
-            first_tick,
-        }
+        Session { table, rule, seen }
     }
 
     // A session over a sound table, that watches one of its rules; otherwise the number of the refusal and 'no session'.
@@ -67,7 +60,7 @@ impl Session {
         }
         Opening {
             number: 0,
-            session: Session::with(table, rule, 0, 0),
+            session: Session::with(table, rule, 0),
         }
     }
 
@@ -82,14 +75,7 @@ impl Session {
         ensures { record { answer = result; history = history.new; scratch = scratch.new; out = out.new } ≡ feeding self block.now history.old scratch.old out.old }
     {
         let k = feed_rule(
-            self.table,
-            self.rule,
-            self.seen,
-            self.first_tick,
-            block,
-            history,
-            scratch,
-            out,
+            self.table, self.rule, self.seen, block, history, scratch, out,
         );
         if k.number != 0 {
             return Answer {
@@ -119,61 +105,20 @@ impl Session {
     {
         close_under(true, self, history, scratch, out)
     }
-
-    // Another rule, from the first of the states that history holds on: their verdicts that are settled, in the first 64 words of out.
-    pub fn change(
-        self,
-        history: &mut [u32],
-        table: Table,
-        rule: usize,
-        scratch: &mut [u64],
-        out: &mut [u64],
-    ) -> Answer
-        ensures { record { answer = result; history = history.new; scratch = scratch.new; out = out.new } ≡ changing self table rule history.old scratch.old out.old }
-    {
-        let d = table::delay(self.table, self.rule);
-        let e = table::delay(table, rule);
-        let number = change_number(
-            d.number != 0,
-            e.number,
-            self.seen,
-            self.first_tick,
-            history.len(),
-            scratch.len(),
-            out.len(),
-        );
-        if number != 0 {
-            return Answer {
-                number,
-                count: 0,
-                session: self,
-            };
-        }
-        resume(
-            self,
-            d.delay as usize,
-            table,
-            rule,
-            e.delay as usize,
-            history,
-            scratch,
-            out,
-        )
-    }
 }
 
 // Document 01's 'no session'.
 pub fn no_session() -> Session
     ensures { result ≡ no_session }
 {
-    Session::with(table::no_table(), 0, 0, 0)
+    Session::with(table::no_table(), 0, 0)
 }
 
 // With another count of states seen.
 fn with_seen(s: Session, seen: u64) -> Session
     ensures { result ≡ with_seen s seen }
 {
-    Session::with(s.table, s.rule, seen, s.first_tick)
+    Session::with(s.table, s.rule, seen)
 }
 
 // The m states from place `by` on go to the first places.
@@ -251,72 +196,24 @@ fn write_verdicts(
     column::clear(&mut out[w..m]);
 }
 
-// The first tick, the states seen and k more pass the limit.
-fn past_limit(seen: u64, first_tick: u64, k: usize) -> bool
-    ensures { result ≡ ltb max_seen (first_tick + seen + k) }
-{
-    let room = MAX_SEEN - first_tick as usize;
-    let left = lists::over(room, seen as usize);
-    (room < seen as usize) | (left < k)
-}
-
 // The number of a feed of k states, where `unfit` says whether the session is, and the buffers have these lengths.
-fn feed_number(
-    unfit: bool,
-    seen: u64,
-    first_tick: u64,
-    k: usize,
-    history: usize,
-    scratch: usize,
-    out: usize,
-) -> u8
-    ensures { result ≡ first (feed_rows max_seen unfit (first_tick + seen) k history scratch out) }
+fn feed_number(unfit: bool, seen: u64, k: usize, history: usize, scratch: usize, out: usize) -> u8
+    ensures { result ≡ first (feed_rows max_seen unfit seen k history scratch out) }
 {
+    let left = MAX_SEEN - seen as usize;
     let short = (history < HISTORY_WORDS) | (scratch < SCRATCH_WORDS) | (out < FEED_WORDS);
-    let past = lists::either(past_limit(seen, first_tick, k), refusals::SEEN, 0);
+    let past = lists::either(left < k, refusals::SEEN, 0);
     let buffer = lists::either(short, refusals::BUFFER, past);
     let many = lists::either(MAX_BLOCK < k, refusals::STATES, buffer);
     lists::either(unfit, refusals::UNSOUND, many)
 }
 
-// The last two rows of a close and of a change.
-fn end_number(seen: u64, first_tick: u64, history: usize, scratch: usize, out: usize) -> u8
-    ensures { result ≡ first (end_rows (first_tick + seen) history scratch out) }
+fn close_number(unfit: bool, history: usize, scratch: usize, out: usize) -> u8
+    ensures { result ≡ first (close_rows unfit history scratch out) }
 {
     let short = (history < HISTORY_WORDS) | (scratch < SCRATCH_WORDS) | (out < CLOSE_WORDS);
-    let past = lists::either(past_limit(seen, first_tick, 0), refusals::SEEN, 0);
-    lists::either(short, refusals::BUFFER, past)
-}
-
-fn close_number(
-    unfit: bool,
-    seen: u64,
-    first_tick: u64,
-    history: usize,
-    scratch: usize,
-    out: usize,
-) -> u8
-    ensures { result ≡ first (close_rows max_seen unfit (first_tick + seen) history scratch out) }
-{
-    let end = end_number(seen, first_tick, history, scratch, out);
-    lists::either(unfit, refusals::UNSOUND, end)
-}
-
-// The number of a change, where `asked` is that of the new rule's delay.
-fn change_number(
-    unfit: bool,
-    asked: u8,
-    seen: u64,
-    first_tick: u64,
-    history: usize,
-    scratch: usize,
-    out: usize,
-) -> u8
-    ensures { result ≡ first (change_steps unfit asked (first_tick + seen) history scratch out) }
-{
-    let end = end_number(seen, first_tick, history, scratch, out);
-    let absent = lists::either(asked != 0, asked, end);
-    lists::either(unfit, refusals::UNSOUND, absent)
+    let buffer = lists::either(short, refusals::BUFFER, 0);
+    lists::either(unfit, refusals::UNSOUND, buffer)
 }
 
 // A close; where `old`, by the delay before A5.
@@ -327,17 +224,10 @@ pub fn close_under(
     scratch: &mut [u64],
     out: &mut [u64],
 ) -> Answer
-    ensures { record { answer = result; history = history.now; scratch = scratch.new; out = out.new } ≡ closing_by (wait_of old) max_seen s history.now scratch.old out.old }
+    ensures { record { answer = result; history = history.now; scratch = scratch.new; out = out.new } ≡ closing_by (wait_of old) s history.now scratch.old out.old }
 {
     let d = table::delay_under(old, s.table, s.rule);
-    let number = close_number(
-        d.number != 0,
-        s.seen,
-        s.first_tick,
-        history.len(),
-        scratch.len(),
-        out.len(),
-    );
+    let number = close_number(d.number != 0, history.len(), scratch.len(), out.len());
     if number != 0 {
         return Answer {
             number,
@@ -353,19 +243,17 @@ pub fn feed_rule(
     t: Table,
     rule: usize,
     seen: u64,
-    first_tick: u64,
     block: &[u32],
     history: &mut [u32],
     scratch: &mut [u64],
     out: &mut [u64],
 ) -> Step
-    ensures { record { step = result; history = history.new; scratch = scratch.new; out = out.new } ≡ step_effect (feeding (session_with t rule seen first_tick) block.now history.old scratch.old out.old) }
+    ensures { record { step = result; history = history.new; scratch = scratch.new; out = out.new } ≡ step_effect (feeding (session_with t rule seen) block.now history.old scratch.old out.old) }
 {
     let d = table::delay(t, rule);
     let number = feed_number(
         d.number != 0,
         seen,
-        first_tick,
         block.len(),
         history.len(),
         scratch.len(),
@@ -398,8 +286,8 @@ fn advance(
     scratch: &mut [u64],
     out: &mut [u64],
 ) -> usize
-    requires { Feedable (session_with t rule seen 0) d block.now history.old scratch.old out.old }
-    ensures { record { step = record { number = 0; count = result }; history = history.new; scratch = scratch.new; out = out.new } ≡ step_effect (fed d (session_with t rule seen 0) block.now history.old scratch.old out.old) }
+    requires { Feedable (session_with t rule seen) d block.now history.old scratch.old out.old }
+    ensures { record { answer = record { number = 0; count = result; session = session_with t rule (seen + length block.now) }; history = history.new; scratch = scratch.new; out = out.new } ≡ fed d (session_with t rule seen) block.now history.old scratch.old out.old }
 {
     let place = t.rules[rule].watched as usize;
     let after = seen + block.len();
@@ -438,44 +326,7 @@ fn finish(s: Session, d: usize, history: &[u32], scratch: &mut [u64], out: &mut 
         scratch,
         out,
     );
-    let session = Session::with(t, rule, 0, 0);
-    Answer {
-        number: 0,
-        count,
-        session,
-    }
-}
-
-// A change that is accepted; d is the delay of the session's rule, and e that of the new one.
-fn resume(
-    s: Session,
-    d: usize,
-    t: Table,
-    rule: usize,
-    e: usize,
-    history: &mut [u32],
-    scratch: &mut [u64],
-    out: &mut [u64],
-) -> Answer
-    requires { Changeable s d t rule e history.old scratch.old out.old }
-    ensures { record { answer = result; history = history.new; scratch = scratch.new; out = out.new } ≡ changed d e s t rule history.old scratch.old out.old }
-{
-    let place = t.rules[rule].watched as usize;
-    let h = lists::lesser(s.seen as usize, d);
-    let count = lists::over(h, e);
-    write_verdicts(
-        t,
-        place,
-        &history[0..h],
-        &history[0..0],
-        count,
-        CLOSE_WORDS,
-        scratch,
-        out,
-    );
-    shift(history, count, lists::lesser(h, e));
-    let first_tick = s.first_tick + (s.seen - h as u64);
-    let session = Session::with(t, rule, h as u64, first_tick);
+    let session = with_seen(s, 0);
     Answer {
         number: 0,
         count,

@@ -3,10 +3,9 @@ use mathlib.Core.Path.{◌≡◌, sym, ap, ◌∙◌}
 use mathlib.Core.Bool.{Bool}
 use borrow.Author.Rules.{rules}
 use lib.ListN.{length}
-use Rattle.limits.specs.Limits.{max_seen}
 use Rattle.lists.specs.Choice.{first}
 use Rattle.table.specs.Nodes.{wait_of}
-use Rattle.session.specs.Session.{elapsed, unfit_by, close_rows, close_number_by}
+use Rattle.session.specs.Session.{unfit_by, close_rows, close_number_by}
 use Rattle.session.proofs.Answers.{unfit-is, delay_is, fit_is, CloseFits, close_fits, closed-refused, closed_accepted}
 use Rattle.session.proofs.close_under.Statement.{statement}
 use Rattle.session.proofs.close_under.Tie as tie
@@ -15,11 +14,11 @@ abbrev start : tie.After-close-number → tie.Start
 start c = c.before.before.before.before.before.before
 
 number : (c : tie.After-close-number) → c.close_number_lem.result
-    ≡ close_number_by (wait_of (start c).args.old) max_seen (start c).args.s (length (start c).args.history.now) (length (start c).args.scratch.now) (length (start c).args.out.now)
+    ≡ close_number_by (wait_of (start c).args.old) (start c).args.s (length (start c).args.history.now) (length (start c).args.scratch.now) (length (start c).args.out.now)
 number c =
     let a = (start c).args in
     c.close_number_lem.ensures
-    ∙ ap (λ (b : Bool). first (close_rows max_seen b (elapsed a.s) (length a.history.now) (length a.scratch.now) (length a.out.now))) (unfit-is a.old a.s c.before.before.delay-under.ensures)
+    ∙ ap (λ (b : Bool). first (close_rows b (length a.history.now) (length a.scratch.now) (length a.out.now))) (unfit-is a.old a.s c.before.before.delay-under.ensures)
 
 returns : tie.Need-returns
 returns c =
@@ -28,10 +27,10 @@ returns c =
 
 -- what the number 0 says
 fits : (c : tie.After-close-number) → c.close_number_lem.result ≡ 0 → let a = (start c).args in
-    CloseFits max_seen (unfit_by (wait_of a.old) a.s) (elapsed a.s) (length a.history.now) (length a.scratch.now) (length a.out.now)
+    CloseFits (unfit_by (wait_of a.old) a.s) (length a.history.now) (length a.scratch.now) (length a.out.now)
 fits c z =
     let a = (start c).args in
-    close_fits max_seen (unfit_by (wait_of a.old) a.s) (elapsed a.s) (length a.history.now) (length a.scratch.now) (length a.out.now) (sym (number c) ∙ z)
+    close_fits (unfit_by (wait_of a.old) a.s) (length a.history.now) (length a.scratch.now) (length a.out.now) (sym (number c) ∙ z)
 
 ready : tie.Need-finish-requires
 ready c κs =

@@ -15,7 +15,7 @@ end : tie.Need-slice-bounds-write-verdicts-end
 end c =
     let f = (start c).requires.fit in
     let w : 4095 ≤ length (start c).args.history.now = f.history_fits in
-    let k : c.lesser.result ≤ length (start c).args.history.now = omega (arith, kept-short (start c).args.s.seen f c.lesser.ensures) in
+    let k : c.lesser.result ≤ length (start c).args.history.now = omega (arith, kept-short f c.lesser.ensures) in
     search rules
 
 writes : tie.Need-write-verdicts-requires
@@ -27,7 +27,7 @@ returns : tie.Need-returns
 returns c =
     let w = c.before.before.before.before.before in
     let l = w.before.before.before.before.before in
-    rw c.with.ensures
+    rw c.with-seen.ensures
     (close_is (start l).requires l.lesser.ensures (lent-part l.lesser.result (start l).args.history.now) refl w.write-verdicts.ensures)
 
 pub finish_spec : {M : Type 1} → statement M

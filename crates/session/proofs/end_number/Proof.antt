@@ -1,7 +1,0 @@
--- The rows from the last to the first. Assumes nothing.
-use borrow.Author.Rules.{rules}
-use Rattle.session.proofs.end_number.Statement.{statement}
-use Rattle.session.proofs.end_number.Tie as tie
-
-pub end-number-spec : {M : Type 1} → statement M
-end-number-spec = tie.close (tie.spec (search rules) (search rules) (search rules) (λ c. cc))
