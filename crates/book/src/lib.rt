@@ -1,4 +1,6 @@
 // Reads a book, document 01's term for a list of rules in records of 12 bytes, into a table; and writes the book of a table.
+#![tactic(auto)]
+
 ghost use Rattle.std.specs.Prelude.{◌≡◌, ◌+◌, ◌*◌, ◌-◌, ◌<◌, true, length, get_or};
 ghost use Rattle.lists.specs.Choice.{first};
 ghost use Rattle.book.specs.Reading.{refused, head_fault, reading};

@@ -1,4 +1,6 @@
 // Builds tables: adds one node or one rule, or refuses it by document 01's rows 5 to 10.
+#![tactic(auto)]
+
 ghost use Rattle.std.specs.Prelude.{◌≡◌};
 ghost use Rattle.lists.specs.Choice.{first};
 ghost use Rattle.builder.specs.Adding.{bad_signal, operand_past, node_rows_by, bad_name, used_before, rule_rows_by, adding_node, adding_rule};

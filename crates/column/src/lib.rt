@@ -1,4 +1,6 @@
 // Passes over one register, a column of bits on words of 64 that is the whole slice: bit t of a register is bit t % 64 of its word t / 64.
+#![tactic(auto)]
+
 ghost use Rattle.std.specs.Prelude.{◌≡◌, length, replicate};
 ghost use Rattle.lists.specs.Bits.{below, bit_at};
 ghost use Rattle.column.specs.Column.{filled, flipped, Turned, WordOf};

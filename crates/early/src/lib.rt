@@ -1,5 +1,7 @@
 // What is known of a rule while its trace still grows: yes, no or open. Each node that the formula needs has a yes column and a no column, in
 // registers of the scratch's two halves; a tick is open where neither is set.
+#![tactic(auto)]
+
 ghost use Rattle.std.specs.Prelude.{◌≡◌, List, ℕ, ◌+◌, ◌*◌, ◌/◌, ◌%◌, ◌≤◌, ◌<◌, length, get_or};
 ghost use Rattle.limits.specs.Limits.{register_words, scratch_words, early_scratch_words};
 ghost use Rattle.lists.specs.Bits.{bit, words};

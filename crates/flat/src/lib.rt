@@ -1,4 +1,6 @@
 // Tables and sessions as bytes, for callers in other languages: a table is 546 bytes, a session 558.
+#![tactic(auto)]
+
 ghost use Rattle.std.specs.Prelude.{◌≡◌, ◌+◌, ◌*◌, ◌≤◌, ◌<◌, ◌++◌, length, take, drop, set};
 ghost use Rattle.limits.specs.Limits.{max_nodes, max_rules, table_bytes, session_bytes};
 ghost use Rattle.lists.specs.Sequence.{ticks, pair_at};

@@ -1,4 +1,6 @@
 // Rules typed as text (document 02, A2): the grammar, the reading of a line byte by byte, and their laws in specs/ and proofs/.
+#![tactic(auto)]
+
 ghost use Rattle.std.specs.Prelude.{◌≡◌};
 ghost use Rattle.grammar.specs.Machine.{item as item_of};
 

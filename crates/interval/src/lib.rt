@@ -1,5 +1,7 @@
 // Two splittings of an interval: its width into parts of 2^k - 1, each as large as fits in what is left; and its length into a power of two and what is
 // left over.
+#![tactic(auto)]
+
 ghost use Rattle.std.specs.Prelude.{◌≡◌, ◌+◌, ◌≤◌, length};
 ghost use Rattle.std.proofs.lemmas.List.Edits.{sets};
 ghost use Rattle.limits.specs.Limits.{max_interval, max_parts};

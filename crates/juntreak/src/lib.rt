@@ -1,5 +1,7 @@
 // The interface for programs in other languages: include/juntreak.h declares each function. A table is 546 bytes, a session 558. A refused
 // call writes nothing but the status registers that it is lent.
+#![tactic(auto)]
+
 ghost use Rattle.std.specs.Prelude.{◌≡◌, length};
 ghost use Rattle.interval.specs.Parts.{splitting};
 ghost use Rattle.interval.specs.Doubling.{doubling};

@@ -1,5 +1,7 @@
 // Where the registers of a table's nodes lie in a scratch: node i's begins at REGISTER_WORDS * i. For U and R two more follow those of 64 nodes. Also
 // how many bits of a constant's column are set.
+#![tactic(auto)]
+
 ghost use Rattle.std.specs.Prelude.{◌≡◌, eqb};
 ghost use Rattle.lists.specs.Choice.{pick};
 

@@ -1,4 +1,6 @@
 // The limits and sizes of documents 01 and 02. specs/Limits has the same as definitions; include/juntreak.h with JUNTREAK_ before each.
+#![tactic(auto)]
+
 
 // ---- tables
 

@@ -1,4 +1,6 @@
 // Decimal lines: a part of the input is read into a block of states.
+#![tactic(auto)]
+
 ghost use Rattle.std.specs.Prelude.{◌≡◌, ◌+◌, ◌-◌, length, drop};
 ghost use Rattle.std.proofs.lemmas.List.Edits.{sets};
 ghost use Rattle.lines.specs.Lines.{empty, with_byte, is_state, filling, filled_from};

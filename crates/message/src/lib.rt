@@ -1,4 +1,6 @@
 // What the program rules tells of a text that is refused: a line for machines, then what is wrong, for people.
+#![tactic(auto)]
+
 ghost use Rattle.std.specs.Prelude.{◌≡◌, ◌+◌, ◌-◌, ◌≤◌, min, length, drop};
 ghost use Rattle.lists.specs.Ascii.{ascii};
 ghost use Rattle.lists.specs.Choice.{pick};

@@ -1,5 +1,7 @@
 // A register's column moved down, alone and with itself. `bridge` and `sustain` take two registers in one slice, as crate pair has them; the others take the
 // whole slice as one.
+#![tactic(auto)]
+
 ghost use Rattle.std.specs.Prelude.{◌≡◌, ◌+◌, ◌-◌, ◌/◌, ◌%◌, ◌≤◌, ◌<◌, length};
 ghost use Rattle.column.specs.Column.{Turned, WordOf, Swept, register};
 ghost use Rattle.pair.specs.Pair.{room, IntoFirst};

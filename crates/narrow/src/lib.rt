@@ -1,4 +1,6 @@
 // Sessions that were opened when the count of states had 32 bits, and their widening.
+#![tactic(auto)]
+
 ghost use Rattle.std.specs.Prelude.{◌≡◌};
 ghost use Rattle.narrow.specs.Narrow.{wide_of, widening};
 

@@ -1,4 +1,6 @@
 // Which nodes are needed: marks of 64 places as the bits of one number.
+#![tactic(auto)]
+
 ghost use Rattle.std.specs.Prelude.{◌≡◌, min, take};
 ghost use Rattle.limits.specs.Limits.{max_nodes};
 ghost use Rattle.needed.specs.Marks.{mark, marked, needed, needed_for};

@@ -1,4 +1,6 @@
 // The session's calls with the status registers beside them: each makes the session's call as it is, and notes what it came to.
+#![tactic(auto)]
+
 ghost use Rattle.std.specs.Prelude.{◌≡◌, [], ◌-◌, ◌≤◌};
 ghost use Rattle.limits.specs.Limits.{max_seen};
 ghost use Rattle.lists.specs.Sequence.{ticks};

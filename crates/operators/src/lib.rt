@@ -1,5 +1,7 @@
 // The operators on registers of one slice, m words each: those of the operands at a and c, that of the result at b. Where they would overlap or not fit, or
 // the interval of F, G, U or R is refused, the slice stays as it was.
+#![tactic(auto)]
+
 ghost use Rattle.std.specs.Prelude.{◌≡◌, ◌&&◌, ◌||◌, not, ◌++◌, ◌+◌, leb, length};
 ghost use Rattle.lists.specs.Bits.{bit_at};
 ghost use Rattle.lists.specs.Choice.{pick};

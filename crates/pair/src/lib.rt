@@ -1,5 +1,7 @@
 // Two registers in one slice, which begins with the first and ends with the second. The second begins `d` words in: each has as many words as there are
 // from d on, and at most d.
+#![tactic(auto)]
+
 ghost use Rattle.std.specs.Prelude.{◌≡◌, ◌||◌, ◌&&◌, ◌-◌, min};
 ghost use Rattle.lists.specs.Bits.{bit_at};
 ghost use Rattle.pair.specs.Pair.{both, IntoSecond, IntoFirst};

@@ -1,4 +1,6 @@
 // Reads a typed line: its name, and its nodes in table order on a tape; or tells the place of its earliest fault.
+#![tactic(auto)]
+
 ghost use Rattle.std.specs.Prelude.{◌≡◌, ◌≤◌, length};
 ghost use Rattle.grammar.specs.Tape.{tape_words, tape};
 ghost use Rattle.parser.specs.Reads.{LineRead};

@@ -1,4 +1,6 @@
 // How far one bad reading reaches: the ticks at which a rule's verdict may change when the state of one tick does.
+#![tactic(auto)]
+
 ghost use Rattle.std.specs.Prelude.{◌≡◌, map, ◌≤◌, get_or, take};
 ghost use Rattle.limits.specs.Limits.{max_nodes};
 ghost use Rattle.lists.specs.Choice.{pick};

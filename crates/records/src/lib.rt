@@ -1,5 +1,7 @@
 // The scheduler's list of records, read and changed by thin functions. A slice of structs is outside what the borrow checker covers: every
 // function over it is proved by a walk of its MIR, and does no more than one thing.
+#![tactic(auto)]
+
 ghost use Rattle.std.specs.Prelude.{◌≡◌, max};
 ghost use Rattle.records.specs.Records.{record_at, with_seen, with_waiting, applied};
 ghost use Rattle.records.specs.Reading.{summary_of};

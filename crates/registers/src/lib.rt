@@ -1,4 +1,6 @@
 // The status registers: sixteen bytes for a program that looks on while sessions run.
+#![tactic(auto)]
+
 ghost use Rattle.std.specs.Prelude.{◌≡◌};
 ghost use Rattle.registers.specs.Registers.{flags_from, byte_of, share, eight_bytes, bytes_of, registers_from, running_after, tick_of, first_after, accepted_by, refused_by, after_call, cleared, enabled, after_write, place_number, reading_of};
 

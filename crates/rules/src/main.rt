@@ -1,4 +1,6 @@
 // The program rules: reads typed rules from standard input and writes their book to standard output, or tells on standard error why they are refused.
+#![tactic(auto)]
+
 ghost use Rattle.std.specs.Prelude.{◌≡◌, ◌+◌, length};
 ghost use Rattle.message.specs.Message.{max_text};
 ghost use Rattle.rules.specs.Output.{Compiles};

@@ -1,5 +1,7 @@
 // The scheduler: several rules over one table, served in turn (A9). Its functions take what one pass over the list of records has found, and
 // answer what the list gets; they do not hold the list.
+#![tactic(auto)]
+
 ghost use Rattle.std.specs.Prelude.{◌≡◌, ◌+◌, ◌*◌, ◌≤◌, ◌<◌, length};
 ghost use Rattle.limits.specs.Limits.{max_list, max_seen, history_words, scratch_words};
 ghost use Rattle.refusals.specs.Numbers.{UNSOUND};

@@ -1,4 +1,6 @@
 // Sessions: states come in blocks, and verdicts are given as soon as they are settled.
+#![tactic(auto)]
+
 ghost use Rattle.std.specs.Prelude.{◌≡◌, ◌++◌, ◌+◌, ◌-◌, ◌≤◌, length, take, drop};
 ghost use Rattle.limits.specs.Limits.{max_block, max_seen};
 ghost use Rattle.lists.specs.Choice.{first};

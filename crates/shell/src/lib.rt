@@ -1,5 +1,7 @@
 // What the exported functions do over bytes, each answer as one number. A refused call writes nothing but the status registers that it is
 // lent.
+#![tactic(auto)]
+
 ghost use Rattle.std.specs.Prelude.{◌≡◌, ◌+◌, ◌≤◌};
 ghost use Rattle.limits.specs.Limits.{max_delay, max_seen};
 ghost use Rattle.mltl.specs.Mltl.{delay};

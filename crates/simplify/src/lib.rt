@@ -1,4 +1,6 @@
 // The simplifier of tables: document 01's laws put to use until none fits.
+#![tactic(auto)]
+
 ghost use Rattle.std.specs.Prelude.{◌≡◌, ◌+◌, ◌≤◌, ◌<◌, get_or, take};
 ghost use mathlib.Core.List.{map, foldl};
 ghost use Rattle.limits.specs.Limits.{max_nodes, max_rules};

@@ -1,4 +1,6 @@
 // Reads typed rules (document 02, A2) into a table, line by line.
+#![tactic(auto)]
+
 ghost use Rattle.std.specs.Prelude.{◌≡◌, ◌+◌, ◌-◌, ◌≤◌, ◌<◌, min, length};
 ghost use Rattle.builder.specs.Built.{Delays};
 ghost use Rattle.grammar.specs.Tape.{kept_nodes, tape_words};

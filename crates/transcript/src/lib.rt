@@ -1,1 +1,3 @@
 // No code: what the program watch prints, as a theorem.
+#![tactic(auto)]
+

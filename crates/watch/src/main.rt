@@ -1,5 +1,7 @@
 // The program watch: reads the book in rules.bin and simplifies it, then a state from each line of standard input, and writes a row for each verdict
 // of the book's first rule.
+#![tactic(auto)]
+
 ghost use Rattle.std.specs.Prelude.{◌≡◌, false, ◌≤◌, ◌<◌, length};
 ghost use Rattle.limits.specs.Limits.{max_block};
 ghost use Rattle.watch.specs.Steps.{Ready, ReadyIfGoing, Begins, Fed, Steps, Closes, Consumed, Completed};

@@ -1,5 +1,7 @@
 // F, G, U and R on registers, columns of bits on words of 64: windows of 2 ^ k bits by doubling, those of F and G widened by what is left over, those of U
 // and R part by part, and begun later.
+#![tactic(auto)]
+
 ghost use Rattle.std.specs.Prelude.{◌≡◌, ◌||◌, ℕ, ◌+◌, ◌-◌, ◌^◌, ◌≤◌, ◌<◌, length, get_or};
 ghost use Rattle.limits.specs.Limits.{max_parts};
 ghost use Rattle.lists.specs.Choice.{pick};
