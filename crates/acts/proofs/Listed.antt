@@ -63,7 +63,7 @@ module _ (w : World) where
   rules_snoc : (p : Rules w) (cs : List (Call w)) (c : Call w)
       → rules_by w p (cs ++ (c ∷ [])) ≡ pick (is_accepted w c) (ruled w c.act c.effect.session.first_tick (rules_by w p cs)) (rules_by w p cs)
   rules_snoc p [] c = refl
-  rules_snoc p (d ∷ cs) c = rules_snoc _ cs c
+  rules_snoc p (d ∷ cs) c = rules_snoc (rules_by w p (d ∷ [])) cs c
 
 -- ---- the claim
 module _ (w : World) (width : Width) (r : w.Rule) (b : w.Source) (o : w.From r b) (start : List ℕ) where

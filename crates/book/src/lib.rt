@@ -15,7 +15,7 @@ mod writer;
 
 // What a record of the book holds: its kind and the record that it links to, then the fields that its kind may use, where an operand
 // is the number of a record and `upper` the upper half of a rule's name, and a tail that is to be zero.
-#[derive(Drop)]
+#[derive(Clone, Copy)]
 struct Entry {
     kind: u8,
     next: u8,
@@ -31,21 +31,21 @@ struct Entry {
 
 // Where the walk along the chain stands: the table so far, and of each record 0 if it is not passed, 1 if it is
 // passed and no node, and 2 + p if it is the node at place p.
-#[derive(Drop)]
+#[derive(Clone, Copy)]
 struct Walk {
     table: Table,
     seen: [u8; 256],
 }
 
 // A record tried where the walk stands: the number of a refusal and the walk as it came, or 0 and the walk with the record added.
-#[derive(Drop)]
+#[derive(Clone, Copy)]
 struct Tried {
     number: u8,
     walk: Walk,
 }
 
 // The number of a refusal and the record that it is about, with a table of zeros; or 0, 0 and the table.
-#[derive(Drop)]
+#[derive(Clone, Copy)]
 pub struct Reading {
     pub number: u8,
     pub record: u8,
@@ -242,7 +242,7 @@ pub fn read(book: &[u8]) -> Reading
 // ---- the book of a table
 
 // The number of a refusal and 0, or 0 and the length of the book in bytes.
-#[derive(Drop)]
+#[derive(Clone, Copy)]
 pub struct Writing {
     pub number: u8,
     pub length: usize,

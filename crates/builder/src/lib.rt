@@ -9,7 +9,7 @@ use limits::{MAX_DELAY, MAX_NAME, MAX_NODES, MAX_RULES, MAX_SIGNAL};
 use table::{Node, Rule, Table};
 
 // The number of a refusal, and the table as it came; or 0, and the table with the node or the rule added.
-#[derive(Drop)]
+#[derive(Clone, Copy)]
 pub struct Added {
     pub number: u8,
     pub table: Table,

@@ -17,7 +17,7 @@ use limits::{EARLY_SCRATCH_WORDS, MAX_TRACE, REGISTER_WORDS, SCRATCH_WORDS};
 use table::{Node, Table};
 
 // An answer: the number of a refusal, or what is known.
-#[derive(Drop)]
+#[derive(Clone, Copy)]
 pub enum Decision {
     Refused(u8),
     No,

@@ -5,7 +5,7 @@ ghost use Rattle.std.specs.Prelude.{◌≡◌};
 ghost use Rattle.grammar.specs.Machine.{item as item_of};
 
 // A node without its operands: the numbers of its kind as they were typed.
-#[derive(Drop)]
+#[derive(Clone, Copy)]
 pub struct Item {
     pub kind: u8,
     pub arg: u32,
@@ -22,7 +22,7 @@ impl Item {
 }
 
 // A node with the place of its left operand among the nodes of its line; its right operand, or its only one, is the node before it.
-#[derive(Drop)]
+#[derive(Clone, Copy)]
 pub struct Made {
     pub it: Item,
     pub left: u32,

@@ -11,7 +11,7 @@ ghost use Rattle.interval.specs.Doubling.{moves_for, doubling};
 use limits::{MAX_INTERVAL, MAX_PARTS};
 
 // The parts k in order, unused places 0, and their count; the number is 0, or that of the refusal.
-#[derive(Drop)]
+#[derive(Clone, Copy)]
 pub struct Splitting {
     pub number: u8,
     pub parts: [u8; MAX_PARTS],
@@ -20,7 +20,7 @@ pub struct Splitting {
 
 // The exponent of the largest power of two that is at most the length, what the length has beyond it, and how many moves make a window of the
 // length; the number is 0, or that of the refusal.
-#[derive(Drop)]
+#[derive(Clone, Copy)]
 pub struct Doubling {
     pub number: u8,
     pub exponent: u8,
@@ -28,7 +28,7 @@ pub struct Doubling {
     pub count: u8,
 }
 
-#[derive(Drop)]
+#[derive(Clone, Copy)]
 struct Found {
     ks: [u8; MAX_PARTS],
     n: usize,

@@ -14,14 +14,14 @@ const MAX_DIGITS: u32 = 10;
 const BAD: u32 = MAX_DIGITS + 1;
 
 // A line so far: how many digits it has, and their value.
-#[derive(Drop)]
+#[derive(Clone, Copy)]
 pub struct Line {
     pub digits: u32,
     pub value: u64,
 }
 
 // How far a part of the input was read, the line so far, the states in the block, and whether a bad line stopped it.
-#[derive(Drop)]
+#[derive(Clone, Copy)]
 pub struct Filled {
     pub at: usize,
     pub line: Line,
@@ -80,7 +80,7 @@ pub fn fill(part: &[u8], at: usize, line: Line, block: &mut [u32], count: usize)
 }
 
 // The end of a line, or of the part: the place after it, the line, and whether it ended.
-#[derive(Drop)]
+#[derive(Clone, Copy)]
 struct Scan {
     at: usize,
     line: Line,

@@ -8,7 +8,7 @@ use session::{Opening, Session};
 use table::Table;
 
 // A session whose count of states has 32 bits. No call opens, feeds or closes one any more.
-#[derive(Drop)]
+#[derive(Clone, Copy)]
 pub struct NarrowSession {
     pub table: Table,
     pub rule: usize,

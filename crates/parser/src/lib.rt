@@ -13,7 +13,7 @@ mod tape;
 mod tokens;
 
 // A place of the text, or the number of a fault and its place; and the count of the nodes on the tape.
-#[derive(Drop)]
+#[derive(Clone, Copy)]
 struct Out {
     pub number: u8,
     pub at: usize,
@@ -21,7 +21,7 @@ struct Out {
 }
 
 // The same with the name of a line.
-#[derive(Drop)]
+#[derive(Clone, Copy)]
 pub struct Lined {
     pub number: u8,
     pub at: usize,

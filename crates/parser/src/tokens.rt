@@ -8,14 +8,14 @@ ghost use Rattle.parser.specs.Code.{IsAt, DigitAt, Skipped, Grown, Numbered, Exp
 use grammar::Item;
 
 // A place of the text, or the number of a fault and its place.
-#[derive(Drop)]
+#[derive(Clone, Copy)]
 pub struct Place {
     pub number: u8,
     pub at: usize,
 }
 
 // The same with a number that was read.
-#[derive(Drop)]
+#[derive(Clone, Copy)]
 pub struct Num {
     pub number: u8,
     pub at: usize,
@@ -23,7 +23,7 @@ pub struct Num {
 }
 
 // The same with an interval.
-#[derive(Drop)]
+#[derive(Clone, Copy)]
 pub struct Span {
     pub number: u8,
     pub at: usize,
@@ -32,7 +32,7 @@ pub struct Span {
 }
 
 // The same, whether a prefix was read, and which.
-#[derive(Drop)]
+#[derive(Clone, Copy)]
 pub struct Before {
     pub number: u8,
     pub at: usize,

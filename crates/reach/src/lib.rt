@@ -13,7 +13,7 @@ use limits::{MAX_DELAY, MAX_NODES};
 use table::{Node, Table};
 
 // An answer: the number of a refusal, that there is no such tick, or the first and the last one.
-#[derive(Drop)]
+#[derive(Clone, Copy)]
 pub enum Range {
     Refused(u8),
     Empty,

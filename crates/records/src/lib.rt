@@ -11,7 +11,7 @@ use limits::MAX_LIST;
 
 // What the scheduler keeps of one rule: its number, how many states it has seen, and how many wait. In C the same 24 bytes.
 #[repr(C)]
-#[derive(Drop)]
+#[derive(Clone, Copy)]
 pub struct Record {
     pub rule: usize,
     pub seen: u64,
@@ -20,7 +20,7 @@ pub struct Record {
 
 // What one pass over the list finds: how many records there are, the highest rule number, the largest number of waiting states, and the
 // first eight records.
-#[derive(Drop)]
+#[derive(Clone, Copy)]
 pub struct Summary {
     pub count: usize,
     pub highest: usize,
@@ -29,7 +29,7 @@ pub struct Summary {
 }
 
 // Both counts of one record. Where the place is past the end, no record changes.
-#[derive(Drop)]
+#[derive(Clone, Copy)]
 pub struct Change {
     pub place: usize,
     pub seen: u64,

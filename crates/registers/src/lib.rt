@@ -7,7 +7,7 @@ ghost use Rattle.registers.specs.Registers.{flags_from, byte_of, share, eight_by
 use limits::STATUS_BYTES;
 
 // Bits 0 to 3 of status and of enable: running, verdicts ready, a no was given, a call was refused.
-#[derive(Drop)]
+#[derive(Clone, Copy)]
 pub struct Flags {
     pub running: bool,
     pub ready: bool,
@@ -16,7 +16,7 @@ pub struct Flags {
 }
 
 // What the bytes hold: beside status and enable the number of the last refused call, and the tick of the first no as 8 bytes.
-#[derive(Drop)]
+#[derive(Clone, Copy)]
 pub struct Registers {
     pub status: Flags,
     pub enable: Flags,
@@ -25,7 +25,7 @@ pub struct Registers {
 }
 
 // The session's calls; Close is either close.
-#[derive(Drop)]
+#[derive(Clone, Copy)]
 pub enum Kind {
     Open,
     Widen,
@@ -34,7 +34,7 @@ pub enum Kind {
 }
 
 // What a session call came to: its number, whether it gave a verdict and whether a no, and the tick of its first no.
-#[derive(Drop)]
+#[derive(Clone, Copy)]
 pub struct Outcome {
     pub kind: Kind,
     pub number: u8,
@@ -44,7 +44,7 @@ pub struct Outcome {
 }
 
 // The number of a refusal or 0, and the byte at a place.
-#[derive(Drop)]
+#[derive(Clone, Copy)]
 pub struct Reading {
     pub number: u8,
     pub value: u8,

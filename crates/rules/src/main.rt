@@ -15,7 +15,7 @@ const ROOM: usize = MAX_TEXT + 1;
 const UNREADABLE: usize = ROOM + 1;
 
 // How many bytes of the book and of the message are to be written.
-#[derive(Drop)]
+#[derive(Clone, Copy)]
 struct Compiled {
     book_bytes: usize,
     message_bytes: usize,

@@ -22,7 +22,7 @@ use session::{Answer, Session, Step};
 use table::Table;
 
 // The number of a refusal or 0, and what the list gets.
-#[derive(Drop)]
+#[derive(Clone, Copy)]
 pub struct Leaving {
     pub number: u8,
     pub change: Change,
@@ -30,7 +30,7 @@ pub struct Leaving {
 
 // The number of a refusal or 0, whether a record was served, the place to hand to the next turn, the count of verdicts, and what the list
 // gets.
-#[derive(Drop)]
+#[derive(Clone, Copy)]
 pub struct Turning {
     pub number: u8,
     pub served: bool,
@@ -40,7 +40,7 @@ pub struct Turning {
 }
 
 // The number of a refusal or 0, the count of verdicts, and what the list gets.
-#[derive(Drop)]
+#[derive(Clone, Copy)]
 pub struct Closing {
     pub number: u8,
     pub count: usize,

@@ -13,7 +13,7 @@ use limits::{CLOSE_WORDS, FEED_WORDS, HISTORY_WORDS, MAX_BLOCK, MAX_SEEN, SCRATC
 use table::Table;
 
 // Document 01's term: a table, the number of the rule that is watched, and how many states it has seen.
-#[derive(Drop)]
+#[derive(Clone, Copy)]
 pub struct Session {
     pub table: Table,
     pub rule: usize,
@@ -21,14 +21,14 @@ pub struct Session {
 }
 
 // The number of a refusal or 0, and the session that is given, or 'no session'.
-#[derive(Drop)]
+#[derive(Clone, Copy)]
 pub struct Opening {
     pub number: u8,
     pub session: Session,
 }
 
 // The number of a refusal or 0, the count of verdicts, and the session handed back.
-#[derive(Drop)]
+#[derive(Clone, Copy)]
 pub struct Answer {
     pub number: u8,
     pub count: usize,
@@ -36,7 +36,7 @@ pub struct Answer {
 }
 
 // The same without a session.
-#[derive(Drop)]
+#[derive(Clone, Copy)]
 pub struct Step {
     pub number: u8,
     pub count: usize,

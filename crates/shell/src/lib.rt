@@ -208,14 +208,14 @@ pub fn close_noted(
 // ---- the scheduler: the work on what one pass over the list has found, and what the list gets
 
 // The number of a refusal or 0, and what the list gets.
-#[derive(Drop)]
+#[derive(Clone, Copy)]
 pub struct Numbered {
     pub number: u32,
     pub change: Change,
 }
 
 // The answer as one number, and what the list gets.
-#[derive(Drop)]
+#[derive(Clone, Copy)]
 pub struct Coded {
     pub code: u64,
     pub change: Change,

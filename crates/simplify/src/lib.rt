@@ -15,7 +15,7 @@ use table::{Node, Rule, Table};
 mod laws;
 
 // What the laws make of a node: it stays, its value stands at a place, or another node has its value.
-#[derive(Drop)]
+#[derive(Clone, Copy)]
 enum Outcome {
     Stay,
     At(u8),
@@ -23,7 +23,7 @@ enum Outcome {
 }
 
 // New nodes, and the new place of each old node so far.
-#[derive(Drop)]
+#[derive(Clone, Copy)]
 struct Build {
     nodes: [Node; MAX_NODES],
     count: usize,
@@ -32,7 +32,7 @@ struct Build {
 }
 
 // The simplified table and 0, or the number of a refusal and the table as it came.
-#[derive(Drop)]
+#[derive(Clone, Copy)]
 pub struct Simplified {
     pub number: u8,
     pub table: Table,

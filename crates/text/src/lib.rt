@@ -13,7 +13,7 @@ use parser::TAPE_WORDS;
 use table::{Node, Rule, Table};
 
 // The number of a refusal and its place or line, with a table of zeros; or 0, 0 and the table.
-#[derive(Drop)]
+#[derive(Clone, Copy)]
 pub struct Typed {
     pub number: u8,
     pub place: usize,

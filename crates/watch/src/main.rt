@@ -20,7 +20,7 @@ const UNREADABLE: usize = ROOM + 1;
 
 // What is kept from one part of the input to the next: the session, the rule's name, the line so far, how many states wait in the block, the tick of
 // the next verdict, and whether the program goes on.
-#[derive(Drop)]
+#[derive(Clone, Copy)]
 struct Progress {
     session: Session,
     name: u16,
@@ -31,7 +31,7 @@ struct Progress {
 }
 
 // After a step: how far the part was read, and how many bytes of the text are to be written.
-#[derive(Drop)]
+#[derive(Clone, Copy)]
 struct StepAnswer {
     progress: Progress,
     at: usize,

@@ -1,0 +1,18 @@
+-- `pair::copy_back` meets its contract. The invariant: the first w words of the first register are written. Assumes nothing.
+use Prim.Native.Nat.{◌-◌}
+use borrow.Author.Rules.{rules}
+use Rattle.lists.specs.Bits.{bit_at}
+use Rattle.pair.proofs.Pairs.{Into, first, into_none, into_next, into_done}
+use Rattle.pair.proofs.copy_back.Goals as goal
+
+pub loop-w-init : goal.loop-w-init
+loop-w-init c = into_none first c.room_of-words.ensures
+
+pub loop-w-preserved : goal.loop-w-preserved
+loop-w-preserved c = into_next c.loop-w.invariant (search rules) (search rules) (search rules) (λ i. (c.slice_known-in-loop-w-1.given i).fits) (λ a b. b)
+
+pub shape_of-s : goal.shape_of-s
+shape_of-s c = c.loop-w.invariant.swept.long
+
+pub returns : goal.returns
+returns c = into_done c.loop-w.invariant c.loop-w-test.false

@@ -1,0 +1,14 @@
+-- `pair::or_into` meets its contract. The invariant: the first w words of the second register are written. Assumes nothing.
+use mathlib.Core.Bool.{◌||◌}
+use Prim.Native.Nat.{◌-◌}
+use borrow.Author.Rules.{rules}
+use Rattle.column.proofs.Words.{or_words}
+use Rattle.pair.specs.Pair.{both}
+use Rattle.pair.proofs.Pairs.{Into, second, into_none, into_next, into_done}
+use Rattle.pair.proofs.or_into.Given as goal
+
+abbrev pub invariant-loop-w : goal.invariant-loop-w
+invariant-loop-w l = Into (both ◌||◌) l.d l.d 0 l.words l.w l.initial.s l.s
+
+abbrev pub decreases-loop-w : goal.decreases-loop-w
+decreases-loop-w l = l.words - l.w
