@@ -1,11 +1,9 @@
 -- A loop that tests each element at its place. Assumes nothing.
-use Prim.Native.Nat.{◌-◌}
 use mathlib.Core.Path.{refl}
 use native.Mathlib.Omega.{arith}
 use borrow.Author.Rules.{rules}
-use Rattle.table.specs.Sound.{differs}
 use Rattle.lists.proofs.Sequences.{length_mapped}
-use Rattle.lists.proofs.Loops.{Tested, tested_start, tested_more, tested_done}
+use Rattle.lists.proofs.Loops.{tested_start, tested_more, tested_done}
 use Rattle.table.proofs.is_new.Goals as goal
 
 pub loop-i-init : goal.loop-i-init

@@ -1,5 +1,4 @@
 -- The fields that a kind uses, by its class. Assumes nothing.
-use borrow.Author.Rules.{rules}
 use Rattle.table.proofs.ByKind.{uses_none, uses_plain, uses_timed}
 use Rattle.table.proofs.Soundness.{known_kind, fits_by, fits_unknown}
 use Rattle.table.proofs.node_fits.Goals as goal

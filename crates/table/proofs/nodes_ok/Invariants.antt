@@ -1,13 +1,8 @@
 -- A loop that tests each element at its place. Assumes nothing.
 use Prim.Native.Nat.{◌-◌}
-use native.Mathlib.Omega.{arith}
-use mathlib.Core.Path.{sym, ◌∙◌}
 use mathlib.Core.Bool.{true}
-use borrow.Author.Tests.{not-true, not-false}
-use borrow.Author.Rules.{rules}
 use Rattle.table.specs.Sound.{node_ok}
-use Rattle.lists.proofs.Sequences.{length_mapped}
-use Rattle.lists.proofs.Loops.{Tested, tested_start, tested_more, tested_done}
+use Rattle.lists.proofs.Loops.{Tested}
 use Rattle.table.proofs.nodes_ok.Given as goal
 
 abbrev pub invariant-loop-i : goal.invariant-loop-i

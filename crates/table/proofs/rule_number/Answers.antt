@@ -1,5 +1,4 @@
 -- The rows from the last to the first. Assumes nothing.
-use borrow.Author.Rules.{rules}
 use Rattle.table.proofs.rule_number.Goals as goal
 
 pub returns : goal.returns

@@ -1,5 +1,4 @@
 -- The test that led to each return picks the case of `if`. Assumes nothing.
-use borrow.Author.Rules.{rules}
 use borrow.Author.Tests.{lt-ltb, le-ltb}
 use Rattle.table.proofs.rule_ok.Goals as goal
 

@@ -1,5 +1,4 @@
 -- The delays that were computed are the table's. Assumes nothing.
-use borrow.Author.Rules.{rules}
 use Rattle.mltl.specs.Mltl.{delay}
 use Rattle.table.proofs.sound.Goals as goal
 

@@ -1,15 +1,13 @@
 -- A loop that fills an array with the values of a chain. Assumes nothing.
-use mathlib.Core.Path.{◌≡◌}
 use mathlib.Core.List.{[]}
-use Prim.Native.Nat.{◌≤◌, ◌-◌}
 use native.Mathlib.Omega.{arith}
 use borrow.Author.Rules.{rules}
-use lib.ListN.{length, take, get_or, length-set}
+use lib.ListN.{take, get_or, length-set}
 use Rattle.table.specs.Nodes.{cap, no_node}
 use Rattle.table.specs.Code.Steps.{node_delay_over}
 use Rattle.lists.proofs.Sequences.{length_mapped}
 use Rattle.lists.specs.Sequence.{chain}
-use Rattle.lists.proofs.Loops.{Made, made_start, made_more, made_done}
+use Rattle.lists.proofs.Loops.{made_start, made_more, made_done}
 use Rattle.table.proofs.Delays.{delay_capped, waits_chain}
 use Rattle.table.proofs.chain.all_delays.Goals as goal
 
@@ -21,7 +19,7 @@ loop-i-preserved c =
     let l = c.loop-i in
     let a = c.args in
     let f = node_delay_over a.old in
-    let ns = a.t2.nodes in
+    let ns = a.t.nodes in
     let m = l.invariant.3 in (
       omega arith,
       l.invariant.1,
@@ -35,4 +33,4 @@ pub returns : goal.returns
 returns c =
     let l = c.loop-i in
     let a = c.args in
-    rw waits_chain (made_done (node_delay_over a.old) cap a.t2.nodes l.ds l.i (omega arith) (omega arith) l.invariant.3)
+    rw waits_chain (made_done (node_delay_over a.old) cap a.t.nodes l.ds l.i (omega arith) (omega arith) l.invariant.3)

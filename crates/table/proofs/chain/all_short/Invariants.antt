@@ -1,11 +1,7 @@
 -- A loop that tests each element at its place. Assumes nothing.
 use Prim.Native.Nat.{◌-◌}
-use mathlib.Core.Path.{refl}
-use native.Mathlib.Omega.{arith}
-use borrow.Author.Rules.{rules}
 use Rattle.table.specs.Sound.{short}
-use Rattle.lists.proofs.Sequences.{length_mapped}
-use Rattle.lists.proofs.Loops.{Tested, tested_start, tested_more, tested_done}
+use Rattle.lists.proofs.Loops.{Tested}
 use Rattle.table.proofs.chain.all_short.Given as goal
 
 abbrev pub invariant-loop-i : goal.invariant-loop-i

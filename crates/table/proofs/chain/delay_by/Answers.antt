@@ -1,5 +1,4 @@
 -- The sum and the larger one of what the fields that the kind uses make it wait. Assumes nothing.
-use borrow.Author.Rules.{rules}
 use Rattle.table.specs.Nodes.{op_of}
 use Rattle.table.proofs.Delays.{delay_uses}
 use Rattle.table.proofs.chain.delay_by.Goals as goal

@@ -1,5 +1,4 @@
 -- A node without operands has no delay; any other has it by its operands'. Assumes nothing.
-use borrow.Author.Rules.{rules}
 use lib.ListN.{take}
 use Rattle.table.proofs.Delays.{no_delay}
 use Rattle.table.proofs.chain.delay_from.Goals as goal

@@ -1,5 +1,4 @@
 -- The tests that led to each return pick its case. Assumes nothing.
-use borrow.Author.Rules.{rules}
 use borrow.Author.Tests.{lt-ltb, le-ltb}
 use Rattle.table.proofs.chain.left_delay.Goals as goal
 
