@@ -26,7 +26,7 @@ offset_bounds-t-rule c =
     let number : (let a = c.args in c.reach_number-number.result ≡ reach_number a.t a.rule a.length a.tick) = (let a = c.args in
     c.reach_number-number.ensures ∙ ap (λ (r : RuleDelay). number_after r.number a.length a.tick) c.delay-d.ensures
     ∙ number_is a.t a.rule a.length a.tick) in
-    let accepted : (let a = c.args in reach_number a.t a.rule a.length a.tick ≡ 0) = (sym number c.if-number-ne0.false) in
+    let accepted : (let a = c.args in reach_number a.t a.rule a.length a.tick ≡ 0) = (sym number ∙ c.if-number-ne0.false) in
     let fit : (let a = c.args in Fits a.t a.rule a.length a.tick) = (let a = c.args in reach-fits a.t a.rule a.length a.tick accepted) in
     let below : (c.args.rule < 8) = (let f = fit in omega (arith, f.sound.few_rules, f.rule_there)) in
     omega (arith, below)
@@ -36,7 +36,7 @@ bounds-t-rule c =
     let number : (let a = c.args in c.reach_number-number.result ≡ reach_number a.t a.rule a.length a.tick) = (let a = c.args in
     c.reach_number-number.ensures ∙ ap (λ (r : RuleDelay). number_after r.number a.length a.tick) c.delay-d.ensures
     ∙ number_is a.t a.rule a.length a.tick) in
-    let accepted : (let a = c.args in reach_number a.t a.rule a.length a.tick ≡ 0) = (sym number c.if-number-ne0.false) in
+    let accepted : (let a = c.args in reach_number a.t a.rule a.length a.tick ≡ 0) = (sym number ∙ c.if-number-ne0.false) in
     let fit : (let a = c.args in Fits a.t a.rule a.length a.tick) = (let a = c.args in reach-fits a.t a.rule a.length a.tick accepted) in
     let below : (c.args.rule < 8) = (let f = fit in omega (arith, f.sound.few_rules, f.rule_there)) in
     below
@@ -46,7 +46,7 @@ returns c =
     let number : (let a = c.args in c.reach_number-number.result ≡ reach_number a.t a.rule a.length a.tick) = (let a = c.args in
     c.reach_number-number.ensures ∙ ap (λ (r : RuleDelay). number_after r.number a.length a.tick) c.delay-d.ensures
     ∙ number_is a.t a.rule a.length a.tick) in
-    let accepted : (let a = c.args in reach_number a.t a.rule a.length a.tick ≡ 0) = (sym number c.if-number-ne0.false) in
+    let accepted : (let a = c.args in reach_number a.t a.rule a.length a.tick ≡ 0) = (sym number ∙ c.if-number-ne0.false) in
     let fit : (let a = c.args in Fits a.t a.rule a.length a.tick) = (let a = c.args in reach-fits a.t a.rule a.length a.tick accepted) in
     let l = c.all_nears-ds in
     let a = c.args in

@@ -1,0 +1,15 @@
+-- A loop that copies the bytes of an entry. Assumes nothing.
+use Prim.Native.Nat.{◌+◌, ◌-◌, ◌≤◌}
+use mathlib.Core.Path.{refl, ap}
+use native.Mathlib.Omega.{arith}
+use borrow.Author.Rules.{rules}
+use lib.ListN.{length}
+use Rattle.lists.proofs.Loops.{Copied, copied_start, copied_more}
+use Rattle.book.proofs.Writes.{entry_copied}
+use Rattle.book.proofs.writer.put_entry.Given as goal
+
+abbrev pub invariant-loop-j : goal.invariant-loop-j
+invariant-loop-j l = (l.at + 12 ≤ length l.initial.out) × (l.j ≤ 12) × Copied l.initial.out l.at l.bytes l.out l.j
+
+abbrev pub decreases-loop-j : goal.decreases-loop-j
+decreases-loop-j l = 12 - l.j

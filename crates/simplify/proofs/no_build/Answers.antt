@@ -1,0 +1,6 @@
+-- 64 blank nodes. Assumes nothing.
+use borrow.Author.Rules.{rules}
+use Rattle.simplify.proofs.no_build.Goals as goal
+
+pub returns : goal.returns
+returns c = rw c.constant-none.ensures
