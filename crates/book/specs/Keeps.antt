@@ -1,6 +1,6 @@
 -- The rules that a book keeps, each as a statement, without an order of checks. A book is accepted exactly where it keeps them
 -- (proofs/Accepts.antt). `wait` is a measure of how many states a verdict waits for.
-use Rattle.std.specs.Prelude.{ℕ, ◌+◌, ◌*◌, ◌≤◌, ◌<◌, ◌≡◌, true, false, length}
+use Rattle.std.specs.Prelude.{ℕ, ◌*◌, ◌≤◌, ◌<◌, ◌≡◌, true, false, length}
 use mathlib.Core.List.{List, [], ◌∷◌, ◌++◌, Memᴰ}
 use Rattle.limits.specs.Limits.{max_nodes, max_rules, max_signal, max_interval, max_delay, record_bytes, max_records}
 use Rattle.mltl.specs.Mltl.{Formula, delay, old_delay}

@@ -2,7 +2,6 @@
 use Prim.Native.Nat.{◌<◌}
 use native.Mathlib.Omega.{arith}
 use Rattle.book.proofs.Steps.{node_refused, node_free, node_step_lem}
-use borrow.Author.Rules.{rules}
 use Rattle.book.proofs.add_node.Goals as goal
 
 pub returns-then-a-ne0 : goal.returns-then-a-ne0

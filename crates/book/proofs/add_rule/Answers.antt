@@ -1,6 +1,5 @@
 -- The builder's number decides. Assumes nothing.
 use Rattle.book.proofs.Steps.{rule_refused, rule_step_lem}
-use borrow.Author.Rules.{rules}
 use Rattle.book.proofs.add_rule.Goals as goal
 
 pub returns-then-a-ne0 : goal.returns-then-a-ne0

@@ -1,5 +1,4 @@
 -- What the callee ensures. Assumes nothing.
-use borrow.Author.Rules.{rules}
 use Rattle.book.proofs.Tests.{link_is}
 use Rattle.book.proofs.bad_link.Goals as goal
 

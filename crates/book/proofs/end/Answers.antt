@@ -1,5 +1,4 @@
 -- The test that led to each return picks the case. Assumes nothing.
-use borrow.Author.Rules.{rules}
 use borrow.Author.Tests.{eq-eqb, ne_eqb}
 use Rattle.book.proofs.end.Goals as goal
 

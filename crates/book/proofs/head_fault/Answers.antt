@@ -2,7 +2,6 @@
 use mathlib.Core.Path.{sym, ◌∙◌}
 use Rattle.book.proofs.Tests.{sized}
 use Rattle.book.proofs.Stands.{head_size, head_is}
-use borrow.Author.Rules.{rules}
 use Rattle.book.proofs.head_fault.Goals as goal
 
 pub returns-then-bad_length : goal.returns-then-bad_length

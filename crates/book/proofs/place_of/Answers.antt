@@ -1,5 +1,4 @@
 -- The test that led to each return picks the case. Assumes nothing.
-use borrow.Author.Rules.{rules}
 use borrow.Author.Tests.{lt-ltb, le-ltb}
 use Rattle.book.proofs.place_of.Goals as goal
 

@@ -4,16 +4,8 @@ use mathlib.Core.Path.{sym, ◌∙◌}
 use Rattle.limits.specs.Limits.{max_name}
 use Rattle.book.specs.Entries.{name_of}
 use Rattle.book.proofs.Tests.{head_clear}
-use borrow.Author.Rules.{rules}
-use Rattle.book.proofs.Going.{Going, unseen, inside, name_small, begins, head_stops, ends, stops, less, turns}
+use Rattle.book.proofs.Going.{inside, name_small, begins, head_stops, ends, stops, less, turns}
 use Rattle.book.proofs.read.Goals as goal
-
--- the name of a record of bytes
-small : (c : tie.After-entry-of2 invariant-loop decreases-loop) → name_of c.entry-of2.result ≤ max_name
-small c =
-    let l = c.before.before.before in
-    let k = l.before.before.before.before.before in
-    name_small k.before.args.book.now l.loop.at c.entry-of2.ensures (λ i. (k.shared-slice-known.given i).fits)
 
 pub returns-then-f-ne0 : goal.returns-then-f-ne0
 returns-then-f-ne0 c = head_stops _ c.head_fault-f.ensures c.if-f-ne0.true c.refuse.ensures
@@ -30,15 +22,18 @@ entry_of-e-requires c = inside c.loop-at.invariant.at c.loop-at-test.true
 
 pub returns-then-x-ne0 : goal.returns-then-x-ne0
 returns-then-x-ne0 c =
-    stops c.loop-at.invariant c.loop-at-test.true c.enter-v.ensures c.entry_of-e.ensures (small c.before.before.before.before) c.try_record-x.ensures c.if-x-ne0.true c.refuse-then-x-ne0.ensures
+    let small : (name_of c.entry_of-e.result ≤ max_name) = (name_small c.args.book.now c.loop-at.at c.entry_of-e.ensures (λ i. (c.shared_slice_known-1.given i).fits)) in
+    stops c.loop-at.invariant c.loop-at-test.true c.enter-v.ensures c.entry_of-e.ensures small c.try_record-x.ensures c.if-x-ne0.true c.refuse-then-x-ne0.ensures
 
 pub loop-at-smaller : goal.loop-at-smaller
 loop-at-smaller c =
-    less c.loop-at.invariant c.loop-at-test.true c.enter-v.ensures c.entry_of-e.ensures (small c.before.before.before.before) c.try_record-x.ensures c.if-x-ne0.false
+    let small : (name_of c.entry_of-e.result ≤ max_name) = (name_small c.args.book.now c.loop-at.at c.entry_of-e.ensures (λ i. (c.shared_slice_known-1.given i).fits)) in
+    less c.loop-at.invariant c.loop-at-test.true c.enter-v.ensures c.entry_of-e.ensures small c.try_record-x.ensures c.if-x-ne0.false
 
 pub loop-at-preserved : goal.loop-at-preserved
 loop-at-preserved c =
-    turns c.loop-at.invariant c.loop-at-test.true c.enter-v.ensures c.entry_of-e.ensures (small c.before.before.before.before) c.try_record-x.ensures c.if-x-ne0.false
+    let small : (name_of c.entry_of-e.result ≤ max_name) = (name_small c.args.book.now c.loop-at.at c.entry_of-e.ensures (λ i. (c.shared_slice_known-1.given i).fits)) in
+    turns c.loop-at.invariant c.loop-at-test.true c.enter-v.ensures c.entry_of-e.ensures small c.try_record-x.ensures c.if-x-ne0.false
 
 pub returns : goal.returns
 returns c = ends c.loop-at.invariant c.loop-at-test.false c.end.ensures

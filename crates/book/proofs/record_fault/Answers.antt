@@ -1,5 +1,4 @@
 -- Both tests, and the rows from the last to the first. Assumes nothing.
-use borrow.Author.Rules.{rules}
 use Rattle.book.proofs.record_fault.Goals as goal
 
 pub returns : goal.returns

@@ -1,6 +1,5 @@
 -- The first number above 0 decides; otherwise the kind does. Assumes nothing.
 use Rattle.book.proofs.Steps.{record_refused, node_tried, rule_tried}
-use borrow.Author.Rules.{rules}
 use Rattle.book.proofs.try_record.Goals as goal
 
 pub returns-then-number-ne0 : goal.returns-then-number-ne0

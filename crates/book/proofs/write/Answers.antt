@@ -2,8 +2,6 @@
 use mathlib.Core.Path.{◌≡◌, sym, ◌∙◌}
 use mathlib.Core.Bool.{true}
 use native.Mathlib.Omega.{arith}
-use borrow.Author.Rules.{rules}
-use borrow.Author.Tests.{not-true, not-false}
 use Rattle.table.specs.Sound.{Sound, is_sound}
 use Rattle.table.proofs.Soundness.{sound_iff}
 use Rattle.book.proofs.Writes.{unsound_written, short_written, whole_written}

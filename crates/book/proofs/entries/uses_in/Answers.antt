@@ -1,7 +1,6 @@
 -- The test that led to each return picks the row. Assumes nothing.
 use borrow.Author.Tests.{eq-eqb, ne_eqb}
 use Rattle.book.specs.Entries.{uses_in}
-use borrow.Author.Rules.{rules}
 use Rattle.book.proofs.entries.uses_in.Goals as goal
 
 pub returns-then-kind-eq11 : goal.returns-then-kind-eq11

@@ -2,7 +2,6 @@
 use Prim.Native.Nat.{◌-◌}
 use mathlib.Core.Path.{sym, ap, ◌∙◌}
 use native.Mathlib.Omega.{arith}
-use borrow.Author.Rules.{rules}
 use Rattle.table.specs.Nodes.{node_at, rule_at}
 use Rattle.book.specs.Writing.{head_entry, node_entry, rule_entry}
 use Rattle.book.proofs.Writes.{head_for, node_for, rule_for, operands_small, watched_small}

@@ -1,10 +1,9 @@
 -- A loop that copies the bytes of an entry. Assumes nothing.
-use Prim.Native.Nat.{◌+◌, ◌-◌, ◌≤◌}
 use mathlib.Core.Path.{refl, ap}
 use native.Mathlib.Omega.{arith}
 use borrow.Author.Rules.{rules}
 use lib.ListN.{length}
-use Rattle.lists.proofs.Loops.{Copied, copied_start, copied_more}
+use Rattle.lists.proofs.Loops.{copied_start, copied_more}
 use Rattle.book.proofs.Writes.{entry_copied}
 use Rattle.book.proofs.writer.put_entry.Goals as goal
 

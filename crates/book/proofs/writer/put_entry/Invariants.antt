@@ -1,11 +1,7 @@
 -- A loop that copies the bytes of an entry. Assumes nothing.
 use Prim.Native.Nat.{◌+◌, ◌-◌, ◌≤◌}
-use mathlib.Core.Path.{refl, ap}
-use native.Mathlib.Omega.{arith}
-use borrow.Author.Rules.{rules}
 use lib.ListN.{length}
-use Rattle.lists.proofs.Loops.{Copied, copied_start, copied_more}
-use Rattle.book.proofs.Writes.{entry_copied}
+use Rattle.lists.proofs.Loops.{Copied}
 use Rattle.book.proofs.writer.put_entry.Given as goal
 
 abbrev pub invariant-loop-j : goal.invariant-loop-j

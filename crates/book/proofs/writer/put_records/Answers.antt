@@ -1,9 +1,6 @@
 -- A loop over the records. Assumes nothing.
-use Prim.Native.Nat.{◌+◌, ◌≤◌, ◌-◌}
 use native.Mathlib.Omega.{arith}
-use borrow.Author.Rules.{rules}
-use Rattle.book.specs.Writing.{many, entry_for}
-use Rattle.book.proofs.Writes.{Put, put_none, put_more, all_put}
+use Rattle.book.proofs.Writes.{put_none, put_more, all_put}
 use Rattle.book.proofs.writer.put_records.Goals as goal
 
 pub overflow_add-n : goal.overflow_add-n
