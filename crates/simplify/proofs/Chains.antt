@@ -47,7 +47,8 @@ module _ (ns : List Node) (n : Node) where
 
   pub law_kept : (k : ℕ) (x : Node) → k ≤ length ns → NodeFits k x → law (ns ++ (n ∷ [])) x ≡ law ns x
   law_kept k x h w =
-      law_agrees x (op x) _ _ _ _ (λ u. node_old _ (omega (arith, w.left.limited u))) (λ u. node_old _ (omega (arith, w.right.limited u)))
+      law_agrees x (op x) (node_within (ns ++ (n ∷ [])) x.left) (node_within (ns ++ (n ∷ [])) x.right) (node_within ns x.left) (node_within ns x.right)
+      (λ u. node_old _ (omega (arith, w.left.limited u))) (λ u. node_old _ (omega (arith, w.right.limited u)))
 
 unrolled_in : (ns : List Node) → AllFit ns → (k : ℕ) → k < length ns → formula_at ns k ≡ formula_over (formulas ns) (node_within ns k)
 unrolled_in = snoc_ind

@@ -1,5 +1,4 @@
 -- A search. Assumes nothing.
-use Prim.Native.Nat.{◌≤◌, ◌-◌}
 use mathlib.Core.Path.{◌≡◌, sym, ap, ◌∙◌}
 use native.Mathlib.Omega.{arith}
 use lib.ListN.{length, take}
@@ -7,7 +6,7 @@ use lib.Seq.{length-take-le, get_or-take}
 use Rattle.table.specs.Nodes.{no_node}
 use Rattle.simplify.specs.Code.Law.{same_node}
 use Rattle.lists.proofs.Sequences.{length_mapped}
-use Rattle.simplify.proofs.Found.{Looked, look_start, look_found, look_more, look_end}
+use Rattle.simplify.proofs.Found.{look_start, look_found, look_more, look_end}
 use borrow.Author.Rules.{rules}
 use Rattle.simplify.proofs.find.Goals as goal
 

@@ -1,12 +1,10 @@
 -- A loop that takes one rule after another. Assumes nothing.
-use Prim.Native.Nat.{◌≤◌, ◌-◌}
 use mathlib.Core.Path.{◌≡◌, refl}
 use native.Mathlib.Omega.{arith}
-use lib.ListN.{length}
 use Rattle.table.specs.Nodes.{no_rule}
 use Rattle.lists.proofs.Sequences.{length_mapped}
 use Rattle.simplify.specs.Code.Passes.{mark_rule}
-use Rattle.lists.proofs.Loops.{Folded, folded_more}
+use Rattle.lists.proofs.Loops.{folded_more}
 use borrow.Author.Rules.{rules}
 use Rattle.simplify.proofs.mark_watched.Goals as goal
 

@@ -1,13 +1,9 @@
 -- A loop that takes one rule after another. Assumes nothing.
 use Prim.Native.Nat.{◌≤◌, ◌-◌}
-use mathlib.Core.Path.{◌≡◌, refl}
-use native.Mathlib.Omega.{arith}
+use mathlib.Core.Path.{◌≡◌}
 use lib.ListN.{length}
-use Rattle.table.specs.Nodes.{no_rule}
-use Rattle.lists.proofs.Sequences.{length_mapped}
 use Rattle.simplify.specs.Code.Passes.{mark_rule}
-use Rattle.lists.proofs.Loops.{Folded, folded_more}
-use borrow.Author.Rules.{rules}
+use Rattle.lists.proofs.Loops.{Folded}
 use Rattle.simplify.proofs.mark_watched.Given as goal
 
 abbrev pub invariant-loop-i : goal.invariant-loop-i

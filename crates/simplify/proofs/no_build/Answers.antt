@@ -1,5 +1,4 @@
 -- 64 blank nodes. Assumes nothing.
-use borrow.Author.Rules.{rules}
 use Rattle.simplify.proofs.no_build.Goals as goal
 
 pub returns : goal.returns

@@ -1,7 +1,6 @@
 -- A place before `done` lies in the part, and any other past it. Assumes nothing.
 use lib.Seq.{get_or-take}
 use Rattle.lists.proofs.Sequences.{get_or_take_out}
-use borrow.Author.Rules.{rules}
 use Rattle.simplify.proofs.place_of.Goals as goal
 
 pub returns-then-k-done : goal.returns-then-k-done

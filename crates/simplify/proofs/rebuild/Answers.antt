@@ -1,13 +1,10 @@
 -- A loop that takes one node after another. Assumes nothing.
-use Prim.Native.Nat.{◌≤◌, ◌-◌}
 use mathlib.Core.Path.{◌≡◌, refl}
 use native.Mathlib.Omega.{arith}
-use lib.ListN.{length}
 use Rattle.table.specs.Nodes.{no_node}
 use Rattle.simplify.specs.Code.Passes.{no_build, step_of}
-use Rattle.lists.proofs.Loops.{Folded, folded_more}
+use Rattle.lists.proofs.Loops.{folded_more}
 use Rattle.simplify.proofs.Space.{ready}
-use borrow.Author.Rules.{rules}
 use Rattle.simplify.proofs.rebuild.Goals as goal
 
 pub loop-i-init : goal.loop-i-init

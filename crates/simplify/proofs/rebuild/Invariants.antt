@@ -1,13 +1,9 @@
 -- A loop that takes one node after another. Assumes nothing.
 use Prim.Native.Nat.{◌≤◌, ◌-◌}
-use mathlib.Core.Path.{◌≡◌, refl}
-use native.Mathlib.Omega.{arith}
+use mathlib.Core.Path.{◌≡◌}
 use lib.ListN.{length}
-use Rattle.table.specs.Nodes.{no_node}
 use Rattle.simplify.specs.Code.Passes.{no_build, step_of}
-use Rattle.lists.proofs.Loops.{Folded, folded_more}
-use Rattle.simplify.proofs.Space.{ready}
-use borrow.Author.Rules.{rules}
+use Rattle.lists.proofs.Loops.{Folded}
 use Rattle.simplify.proofs.rebuild.Given as goal
 
 abbrev pub invariant-loop-i : goal.invariant-loop-i

@@ -1,13 +1,12 @@
 -- A loop that maps each element. Assumes nothing.
-use Prim.Native.Nat.{◌≤◌, ◌-◌}
-use mathlib.Core.Path.{◌≡◌, refl}
+use mathlib.Core.Path.{refl}
 use native.Mathlib.Omega.{arith}
-use lib.ListN.{length, length-set}
+use lib.ListN.{length-set}
 use Rattle.table.specs.Nodes.{no_rule}
 use Rattle.lists.proofs.Sequences.{length_mapped}
 use Rattle.simplify.specs.Code.Passes.{renamed_rule}
 use Rattle.simplify.specs.Code.Passes.{places_of}
-use Rattle.lists.proofs.Loops.{Mapped, mapped_more, mapped_done}
+use Rattle.lists.proofs.Loops.{mapped_more, mapped_done}
 use borrow.Author.Rules.{rules}
 use Rattle.simplify.proofs.renamed_rules.Goals as goal
 

@@ -1,14 +1,10 @@
 -- A loop that maps each element. Assumes nothing.
 use Prim.Native.Nat.{◌≤◌, ◌-◌}
-use mathlib.Core.Path.{◌≡◌, refl}
-use native.Mathlib.Omega.{arith}
-use lib.ListN.{length, length-set}
-use Rattle.table.specs.Nodes.{no_rule}
-use Rattle.lists.proofs.Sequences.{length_mapped}
+use mathlib.Core.Path.{◌≡◌}
+use lib.ListN.{length}
 use Rattle.simplify.specs.Code.Passes.{renamed_rule}
 use Rattle.simplify.specs.Code.Passes.{places_of}
-use Rattle.lists.proofs.Loops.{Mapped, mapped_more, mapped_done}
-use borrow.Author.Rules.{rules}
+use Rattle.lists.proofs.Loops.{Mapped}
 use Rattle.simplify.proofs.renamed_rules.Given as goal
 
 abbrev pub invariant-loop-i : goal.invariant-loop-i

@@ -1,7 +1,5 @@
 -- What the callees ensure, put together. Assumes nothing.
 use mathlib.Core.Path.{sym, ◌∙◌}
-use borrow.Author.Rules.{rules}
-use borrow.Author.Tests.{not-true, not-false}
 use Rattle.table.specs.Sound.{Sound}
 use Rattle.table.proofs.Soundness.{sound_iff}
 use Rattle.simplify.proofs.Together.{first_count, first_done, second_done, together, refused}

@@ -1,7 +1,6 @@
 -- What the callees ensure, put together. Assumes nothing.
 use native.Mathlib.Omega.{arith}
 use mathlib.Core.Path.{ap, ap₂, ◌∙◌}
-use borrow.Author.Rules.{rules}
 use Rattle.table.specs.Nodes.{op_of}
 use Rattle.table.specs.declared.Node.{Node}
 use Rattle.simplify.specs.Code.Law.{law, law_as}

@@ -1,15 +1,9 @@
 -- A loop that takes one node after another. Assumes nothing.
 use Prim.Native.Nat.{◌≤◌, ◌-◌}
-use mathlib.Core.Path.{◌≡◌, sym, ap, ◌∙◌}
-use native.Mathlib.Omega.{arith}
-use lib.ListN.{length, get_or}
-use Rattle.lists.specs.Bits.{bit}
-use Rattle.table.specs.Nodes.{no_node}
-use Rattle.lists.proofs.Sequences.{length_mapped}
-use Rattle.simplify.specs.Code.Passes.{no_build, keep_of, keep_by}
-use Rattle.lists.proofs.Loops.{Folded, folded_more}
-use Rattle.simplify.proofs.Arrays.{counted}
-use borrow.Author.Rules.{rules}
+use mathlib.Core.Path.{◌≡◌}
+use lib.ListN.{length}
+use Rattle.simplify.specs.Code.Passes.{no_build, keep_by}
+use Rattle.lists.proofs.Loops.{Folded}
 use Rattle.simplify.proofs.sweep.Given as goal
 
 abbrev pub invariant-loop-i : goal.invariant-loop-i

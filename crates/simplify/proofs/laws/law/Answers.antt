@@ -3,7 +3,6 @@
 use native.Mathlib.Omega.{arith}
 use mathlib.Core.Path.{◌∙◌}
 use mathlib.Core.List.{[], ◌∷◌, map}
-use borrow.Author.Rules.{rules}
 use lib.ListN.{get_or}
 use Rattle.table.specs.Nodes.{Op, ops}
 use Rattle.table.proofs.ByKind.{entry, past}

@@ -1,5 +1,4 @@
 -- The tests that led to each return pick the case. Assumes nothing.
-use borrow.Author.Rules.{rules}
 use Rattle.simplify.proofs.laws.law_join.Goals as goal
 
 pub returns-then-n-left_stays : goal.returns-then-n-left_stays

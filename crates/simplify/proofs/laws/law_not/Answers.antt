@@ -1,5 +1,4 @@
 -- The tests that led to each return pick the case. Assumes nothing.
-use borrow.Author.Rules.{rules}
 use borrow.Author.Tests.{eq-eqb, ne_eqb}
 use mathlib.Core.Path.{ap}
 use Rattle.simplify.specs.declared.Outcome.TheVariants.{Put}

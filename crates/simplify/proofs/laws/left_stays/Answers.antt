@@ -1,5 +1,4 @@
 -- What the callees ensure, put together. Assumes nothing.
-use borrow.Author.Rules.{rules}
 use Rattle.simplify.proofs.laws.left_stays.Goals as goal
 
 pub returns : goal.returns
