@@ -1,5 +1,4 @@
-// The scheduler's list of records, read and changed by thin functions. A slice of structs is outside what the borrow checker covers: every
-// function over it is proved by a walk of its MIR, and does no more than one thing.
+// The scheduler's list of records, read and changed by thin functions.
 #![tactic(auto)]
 
 ghost use Rattle.std.specs.Prelude.{◌≡◌, max};
