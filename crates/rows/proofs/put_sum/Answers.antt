@@ -1,0 +1,11 @@
+-- All digits but the last, and the last. Assumes nothing.
+use native.Mathlib.Omega.{arith}
+use borrow.Author.Rules.{rules}
+use Rattle.rows.proofs.Laws.{put_then, sum_is}
+use Rattle.rows.proofs.put_sum.Goals as goal
+
+pub returns : goal.returns
+returns c = (
+  rw (← sum_is c.args.a c.args.b c.ranges.a.fits c.ranges.b.fits) (put_then c.put_positive-c.ensures.0 c.put_byte.ensures),
+  omega (arith, c.put_positive-c.ensures.1, c.put_byte.ensures.place),
+)
