@@ -5,7 +5,6 @@ use mathlib.Core.Path.{◌≡◌, refl, sym, ◌∙◌}
 use mathlib.Core.List.{List}
 use mathlib.Core.Logic.{⊎_elim}
 use borrow.Author.Tests.{eq-eqb, ne_eqb, lt-ltb}
-use lib.Dec.{eqb}
 use lib.ListN.{get_or}
 use Rattle.lists.proofs.Tests.{lt_or_le}
 use Rattle.registers.specs.declared.Flags.{Flags}
