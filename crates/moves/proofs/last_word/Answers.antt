@@ -1,6 +1,5 @@
 -- `moves::last_word` meets its contract. Assumes nothing.
 use borrow.Author.Rules.{rules}
-use Prim.Native.Nat.{◌+◌, ◌/◌}
 use Rattle.moves.proofs.Sweeps.{last_of}
 use Rattle.moves.proofs.last_word.Goals as goal
 
