@@ -1,0 +1,11 @@
+-- `moves::move_words` meets its contract. The invariant: the first w words are moved. Assumes nothing.
+use Prim.Native.Nat.{◌-◌, ◌≤◌}
+use Rattle.column.specs.Column.{Swept, register}
+use Rattle.moves.specs.Moves.{moved}
+use Rattle.moves.proofs.move_words.Given as goal
+
+abbrev pub invariant-loop-w : goal.invariant-loop-w
+invariant-loop-w l = Swept 0 (moved l.by (register 0 l.words l.initial.s)) l.w l.initial.s l.s × (l.w ≤ l.last)
+
+abbrev pub decreases-loop-w : goal.decreases-loop-w
+decreases-loop-w l = l.last - l.w

@@ -1,0 +1,32 @@
+-- `operators::put_fill` meets its contract. Assumes nothing.
+use Prim.Native.Nat.{◌+◌, ◌≤◌}
+use mathlib.Core.Path.{sym, ◌∙◌}
+use borrow.Author.Rules.{rules}
+use borrow.Author.Tests.{leb-true}
+use lib.ListN.{length}
+use Rattle.operators.specs.Operators.{fill_laid}
+use Rattle.operators.proofs.Fits.{stays, turns}
+use Rattle.operators.proofs.Laws.{part_whole}
+use Rattle.operators.proofs.put_fill.Goals.{Else-not-apart}
+use Rattle.operators.proofs.put_fill.Goals as goal
+
+fit : (c : Else-not-apart) → let a = c.args in a.b + a.m ≤ length a.s.now
+fit c = let a = c.args in leb-true (a.b + a.m) (length a.s.now) (sym c.apart.ensures ∙ c.if-not-apart.false)
+
+pub returns-then-not-apart : goal.returns-then-not-apart
+returns-then-not-apart c = let a = c.args in stays a.s.now (fill_laid a.b a.m a.n a.s.now) (sym c.apart.ensures ∙ c.if-not-apart.true)
+
+pub overflow_add-e : goal.overflow_add-e
+overflow_add-e c = let h = fit c in search rules
+
+pub offset_bounds-s-b : goal.offset_bounds-s-b
+offset_bounds-s-b c = let h = fit c in search rules
+
+pub slice_bounds-fill-end : goal.slice_bounds-fill-end
+slice_bounds-fill-end c = let h = fit c in search rules
+
+pub returns : goal.returns
+returns c =
+    let a = c.args in
+    let u = c.fill in
+    turns a.s.now (fill_laid a.b a.m a.n a.s.now) (sym c.apart.ensures ∙ c.if-not-apart.false) (part_whole u.new.s (fit (goal.at.returns c).Else-not-apart) u.ensures).is
