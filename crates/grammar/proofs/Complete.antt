@@ -12,7 +12,7 @@ use Rattle.lists.proofs.Tests.{true_left}
 use Rattle.mltl.specs.Mltl.{Formula, signal, const, neg, and, or, F, G, U, R}
 use Rattle.grammar.specs.Grammar.{Spaces, is_digit, Digits, end, digit, Number, nought, digits, Interval, Sort, Atom, Unary, Conjunction, Disjunction, AnyFormula, Is, a_signal, a_true, a_false, a_brackets, u_atom, u_not, u_finally, u_globally, c_unary, c_and, d_conjunction, d_or, w_disjunction, w_until, w_release, Line}
 use Rattle.grammar.specs.declared.Item.{Item}
-use Rattle.grammar.specs.Machine.{Actions, plain_item, item, Purpose, Name, Sig, Lo, Hi, ToLo, ToOp, Awaited, First, Chain, Right, Stack, bottom, push, depth, AwaitNumber, InNumber, AwaitByte, AwaitUnary, FirstRead, ChainRead, AllRead, Config, cf, on, ended, Finished, unary_done, atom_done, orred, formula_ended, go, puts, plain, step, fate, build, trees, begin}
+use Rattle.grammar.specs.Machine.{Actions, plain_item, item, Purpose, Name, Sig, Lo, Hi, ToLo, ToOp, Awaited, First, Chain, Right, Stack, bottom, push, depth, AwaitNumber, InNumber, AwaitByte, AwaitUnary, FirstRead, ChainRead, AllRead, Config, cf, on, Finished, unary_done, atom_done, orred, formula_ended, go, puts, plain, step, fate, build, trees, begin}
 use Rattle.grammar.proofs.Runs.{pick_true, Runs, still, moves, joins, Like, itself, Reach, after, unary_spaces, dig_like, dig_more, num_first, spaces_start, spaces_number, spaces_want, tells}
 
 -- ---- numbers and intervals

@@ -125,8 +125,8 @@ module _ {B N : Type 0} (A : Actions B N) (lim : ℕ) where
 module _ {B N : Type 0} {A : Actions B N} {lim : ℕ} where
   pub after : {c d : Config B N} {bs r : List ℕ} → Like A lim c d → Spaces bs r → Reach A lim c bs d r
   after {c = c} l none' = record { now = c; way = still; like = l }
-  after l (one s) =
-      let q = after (itself A lim l.spaces) s in
+  after {c = c} {d = d} l (one s) =
+      let q = after {c = d} {d = d} (itself A lim l.spaces) s in
       record { now = q.now; way = moves (l.at 32 refl ∙ l.spaces) q.way; like = q.like }
 
 module _ {B N : Type 0} (A : Actions B N) (lim : ℕ) where

@@ -66,7 +66,7 @@ data Opened (lim : ℕ) (w : List ℕ) : Stack Formula → ℕ → List ℕ → 
   bracket : {d : ℕ} {p : Awaited Formula} {is : List Item} {st : Stack Formula} {m u v e : List ℕ}
       → Opened lim w st (suc d) m → Begun (suc d) p m u → Prefixed is u v → Spaces v (40 ∷ e) → Opened lim w (push p is st) d e
 
-opened_depth : {lim d : ℕ} {w m : List ℕ} {st : Stack Formula} → Opened lim w st d m → depth st + d ≡ lim
+opened_depth : {lim : ℕ} {w : List ℕ} {d : ℕ} {m : List ℕ} {st : Stack Formula} → Opened lim w st d m → depth st + d ≡ lim
 unfolding depth
 opened_depth (line s n c) = omega arith
 opened_depth (bracket o b p s) = let h = opened_depth o in omega arith

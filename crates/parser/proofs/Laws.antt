@@ -1,5 +1,5 @@
 -- What a byte, or the end of the text, does to the fate of a line. Assumes nothing.
-use Prim.Native.Nat.{ℕ, ◌+◌, ◌-◌, ◌≤◌, ◌<◌}
+use Prim.Native.Nat.{ℕ, ◌+◌, ◌≤◌, ◌<◌}
 use native.Mathlib.Numerals.{add-one}
 use native.Mathlib.Omega.{arith}
 use mathlib.Core.Path.{◌≡◌, sym, ap, ◌∙◌}
@@ -14,7 +14,6 @@ use Rattle.lists.proofs.Tests.{lt_or_le}
 use Rattle.grammar.specs.Grammar.{Spaces, none as no-space, one, is_digit}
 use Rattle.grammar.specs.Machine.{Config, Next, on, stop, Fault, step, follow, fate}
 use Rattle.grammar.proofs.Runs.{Runs, still, moves, fated}
-use Rattle.grammar.proofs.Steps
 use Rattle.grammar.specs.Tape.{Tape, tapes}
 use Rattle.parser.specs.Reads.{from, byte_at}
 use Rattle.parser.specs.Code.{IsAt, DigitAt, Skipped}
