@@ -21,7 +21,7 @@ use Rattle.lists.specs.Sequence.{every}
 use Rattle.mltl.specs.Mltl.{holds}
 use Rattle.table.proofs.Soundness.{fits_iff, sound_iff}
 use Rattle.table.specs.Nodes.{formula_at, no_node, node_at, rule_at}
-use Rattle.table.specs.Sound.{Sound, fits, is_sound, short}
+use Rattle.table.specs.Sound.{Sound, fits, is_sound}
 use Rattle.table.specs.declared.Node.{Node}
 use Rattle.table.specs.declared.Table.{Table}
 use Rattle.column.proofs.Registers.{length_register}

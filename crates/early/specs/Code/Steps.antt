@@ -1,5 +1,5 @@
 -- The two columns of each node in the halves of the scratch, and what the functions that write them leave there.
-use Rattle.std.specs.Prelude.{◌≡◌, Bool, true, false, not, ◌||◌, ◌&&◌, List, ℕ, ◌+◌, ◌-◌, ◌*◌, ◌≤◌, ◌<◌, ltb, leb, eqb, length, get_or, drop}
+use Rattle.std.specs.Prelude.{◌≡◌, Bool, true, false, not, ◌||◌, ◌&&◌, List, ℕ, ◌+◌, ◌*◌, ◌≤◌, ◌<◌, ltb, leb, eqb, length, get_or, drop}
 use Rattle.limits.specs.Limits.{max_nodes, max_trace, register_words, scratch_words, early_scratch_words}
 use Rattle.lists.specs.Bits.{bit_at, words, packed}
 use Rattle.lists.specs.Choice.{pick}

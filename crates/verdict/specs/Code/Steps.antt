@@ -1,5 +1,5 @@
 -- What the functions that write the nodes' registers leave in the scratch.
-use Rattle.std.specs.Prelude.{◌≡◌, Bool, true, false, ◌||◌, ◌&&◌, List, ℕ, ◌+◌, ◌-◌, ◌*◌, ◌≤◌, ◌<◌, length, get_or, drop}
+use Rattle.std.specs.Prelude.{◌≡◌, Bool, true, false, ◌||◌, ◌&&◌, List, ℕ, ◌+◌, ◌*◌, ◌≤◌, ◌<◌, length, get_or, drop}
 use Rattle.limits.specs.Limits.{max_nodes, max_trace, register_words, scratch_words}
 use Rattle.lists.specs.Bits.{words, bit_at, packed, below}
 use Rattle.mltl.specs.Mltl.{holds, eventually, opposite}

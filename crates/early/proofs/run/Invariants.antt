@@ -1,0 +1,12 @@
+-- `early::run` meets its contract. The invariant: the columns of the first i nodes that are marked are there. Assumes nothing.
+use Prim.Native.Nat.{◌-◌, ◌≤◌}
+use mathlib.Core.Path.{◌≡◌}
+use lib.ListN.{length}
+use Rattle.early.specs.Code.Steps.{Columns}
+use Rattle.early.proofs.run.Given as goal
+
+abbrev pub invariant-loop-i : goal.invariant-loop-i
+invariant-loop-i l = Columns l.i l.t.nodes l.marks l.states l.initial.s l.s × (length l.s ≡ length l.initial.s) × (l.i ≤ l.upto) × (length l.t.nodes ≡ 64)
+
+abbrev pub decreases-loop-i : goal.decreases-loop-i
+decreases-loop-i l = l.upto - l.i

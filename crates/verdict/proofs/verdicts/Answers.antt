@@ -1,0 +1,48 @@
+-- The number decides; of a call that is accepted the evaluator is ready. Assumes nothing.
+use Prim.Native.Nat.{◌<◌}
+use native.Mathlib.Omega.{arith}
+use mathlib.Core.Path.{sym, ap, ◌∙◌, ◌≡◌}
+use mathlib.Core.Bool.{Bool}
+use lib.ListN.{length}
+use Rattle.lists.specs.Choice.{first}
+use Rattle.table.specs.Nodes.{rule_at}
+use Rattle.verdict.specs.Verdict.{whole_number, whole_number_for, whole_rows}
+use Rattle.verdict.proofs.Answers.{accepts, ready-sound, refuses, WholeFits, whole-fits}
+use mathlib.Core.List.{List}
+use Prim.Native.Nat.{ℕ}
+use Rattle.table.specs.declared.Table.{Table}
+use Rattle.table.specs.Sound.{is_sound}
+use Rattle.verdict.proofs.verdicts.Goals as goal
+
+number : (t : Table) (r : ℕ) (states x o : List ℕ) {n : ℕ} {b : Bool}
+    → n ≡ first (whole_rows b t.rule_count r (length states) (length x) (length o)) → b ≡ is_sound t → n ≡ whole_number_for t r states x o
+unfolding whole_number
+number t r states x o e s = e ∙ ap (λ (b : Bool). first (whole_rows b t.rule_count r (length states) (length x) (length o))) s
+
+-- no row fits
+fit : (t : Table) (r : ℕ) (states x o : List ℕ) {n : ℕ} {b : Bool}
+    → n ≡ first (whole_rows b t.rule_count r (length states) (length x) (length o)) → b ≡ is_sound t → n ≡ 0 → WholeFits t r (length states) (length x) (length o)
+fit t r states x o e s z = whole-fits t r (length states) (length x) (length o) (sym (number t r states x o e s) ∙ z)
+
+few : {t : Table} {r k x o : ℕ} → WholeFits t r k x o → r < 8
+few f = omega (arith, f.sound.few_rules, f.rule_there)
+
+pub returns-then-number-ne0 : goal.returns-then-number-ne0
+returns-then-number-ne0 c =
+    let a = c.args in
+    refuses (number a.t a.rule a.states.now a.scratch.now a.out.now c.whole_number-number.ensures c.sound.ensures) c.if-number-ne0.true
+
+pub offset_bounds-t-rule : goal.offset_bounds-t-rule
+offset_bounds-t-rule c = let a = c.args in omega (arith, few (fit a.t a.rule a.states.now a.scratch.now a.out.now c.whole_number-number.ensures c.sound.ensures c.if-number-ne0.false))
+
+pub bounds-t-rule : goal.bounds-t-rule
+bounds-t-rule c = let a = c.args in few (fit a.t a.rule a.states.now a.scratch.now a.out.now c.whole_number-number.ensures c.sound.ensures c.if-number-ne0.false)
+
+pub returns : goal.returns
+returns c =
+    let a = c.args in
+    let f = fit a.t a.rule a.states.now a.scratch.now a.out.now c.whole_number-number.ensures c.sound.ensures c.if-number-ne0.false in
+    accepts (sym (number a.t a.rule a.states.now a.scratch.now a.out.now c.whole_number-number.ensures c.sound.ensures) ∙ c.if-number-ne0.false)
+    (ready-sound a.t (rule_at a.t a.rule).watched a.states.now (length a.states.now) a.scratch.now a.out.now f.sound.places f.sound
+    (f.sound.rule a.rule f.rule_there).watched f.few-states (omega arith) f.scratch_fits f.out_fits)
+    c.judge.ensures
