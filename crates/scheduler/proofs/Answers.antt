@@ -140,14 +140,14 @@ pub record TurnTried (t : Table) (s : Summary) (from : ℕ) (h w x o : List ℕ)
   pub number : n ≡ first (turn_rows b s.count r (length h) (length w) (length x) (length o))
 
 module _ {t : Table} {s : Summary} {from : ℕ} {h w x o : List ℕ} {p : ℕ} {r : Record} {b : Bool} {n : ℕ} (g : TurnTried t s from h w x o p r b n) where
-  abbrev next_place : ℕ
-  next_place = next_place s.records s.count from
+  abbrev served_place : ℕ
+  served_place = next_place s.records s.count from
 
-  record_is : r ≡ record_at s.records next_place
+  record_is : r ≡ record_at s.records served_place
   record_is = g.found ∙ ap (record_at s.records) g.place
 
   abbrev of-turn : ℕ
-  of-turn = first (turn_rows (misfits t.rule_count s) s.count (record_at s.records next_place) (length h) (length w) (length x) (length o))
+  of-turn = first (turn_rows (misfits t.rule_count s) s.count (record_at s.records served_place) (length h) (length w) (length x) (length o))
 
   turn_is : n ≡ of-turn
   turn_is = g.number ∙ ap₂ (λ (b : Bool) (r : Record). first (turn_rows b s.count r (length h) (length w) (length x) (length o))) g.bad record_is
@@ -164,7 +164,7 @@ module _ {t : Table} {s : Summary} {from : ℕ} {h w x o : List ℕ} {p : ℕ} {
   unfolding turn_work
   turned-idle z l e =
       (λ j. record { done = e.0 j; history = h; scratch = e.1 j; out = o })
-      ∙ rw (eq-eqb of-turn 0 (sym turn_is ∙ z), le-ltb next_place s.count (omega (arith, g.place)))
+      ∙ rw (eq-eqb of-turn 0 (sym turn_is ∙ z), le-ltb served_place s.count (omega (arith, g.place)))
 
   pub turned-served : {a : Step} {hl xl ol : List ℕ} {d : Turning} → n ≡ 0 → p < s.count
       → ◌≡◌ {A = StepEffect} (record { step = a; history = hl; scratch = xl; out = ol }) (fed_in t r p h w x o) → d ≡ served_by a r p from s.count
@@ -174,7 +174,7 @@ module _ {t : Table} {s : Summary} {from : ℕ} {h w x o : List ℕ} {p : ℕ} {
       ap (λ (u : Turning). record { done = u; history = hl; scratch = xl; out = ol }) ed
       ∙ ap (λ (f : StepEffect). record { done = served_by f.step r p from s.count; history = f.history; scratch = f.scratch; out = f.out }) e
       ∙ ap₂ (λ (u : Record) (k : ℕ). serve_work t u k from s.count h w x o) record_is g.place
-      ∙ rw (eq-eqb of-turn 0 (sym turn_is ∙ z), lt-ltb next_place s.count (omega (arith, g.place)))
+      ∙ rw (eq-eqb of-turn 0 (sym turn_is ∙ z), lt-ltb served_place s.count (omega (arith, g.place)))
 
   turn-fit : n ≡ 0 → TurnFits b s.count r (length h) (length w) (length x) (length o)
   turn-fit z = turn_fits b s.count r (length h) (length w) (length x) (length o) (sym g.number ∙ z)

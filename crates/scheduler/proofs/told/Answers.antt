@@ -1,0 +1,5 @@
+-- The callees' answers put together. Assumes nothing.
+use Rattle.scheduler.proofs.told.Goals as goal
+
+pub returns : goal.returns
+returns c = cc
