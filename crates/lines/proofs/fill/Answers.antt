@@ -1,12 +1,12 @@
 -- `lines::fill` meets its contract. The invariant: some lines were read, and the rest is still to be read. Assumes nothing.
-use Prim.Native.Nat.{◌-◌, ◌<◌}
+use Prim.Native.Nat.{◌<◌}
 use mathlib.Core.Path.{sym, ◌∙◌}
 use borrow.Author.Rules.{rules}
 use borrow.Author.Tests.{not-true, not-false, ltb-true}
 use lib.Dec.{ltb}
 use Rattle.lists.proofs.Tests.{true_left, true_right}
 use lib.ListN.{length}
-use Rattle.lines.proofs.Laws.{Reached, reached_none, reached_stop, more_read, part_read, bad_read, further, value_fits}
+use Rattle.lines.proofs.Laws.{reached_none, reached_stop, more_read, part_read, bad_read, further, value_fits}
 use Rattle.lines.proofs.fill.Goals as goal
 
 pub loop-i-init : goal.loop-i-init
@@ -18,7 +18,8 @@ returns-then-not-q c =
     let a = ltb p.i (length c.args.part.now) in
     let b = ltb p.k (length p.block) in
     (ltb-true _ _ (true_left a b c.loop-i-test.true), ltb-true _ _ (true_right a b c.loop-i-test.true))) in
-    part_read c.loop-i.invariant c.scan_line-q.result c.scan_line-q.ensures tests.1 c.if-not-q.true
+    let w = part_read c.loop-i.invariant c.scan_line-q.result c.scan_line-q.ensures tests.1 (not-true _ c.if-not-q.true) in
+    record { value = w.0; block_after = w.1 }
 
 pub returns-then-not-is_state : goal.returns-then-not-is_state
 returns-then-not-is_state c =
@@ -26,9 +27,9 @@ returns-then-not-is_state c =
     let a = ltb p.i (length c.args.part.now) in
     let b = ltb p.k (length p.block) in
     (ltb-true _ _ (true_left a b c.loop-i-test.true), ltb-true _ _ (true_right a b c.loop-i-test.true))) in
-    rw c.start.ensures
-    (bad_read c.loop-i.inv c.scan_line-q.result c.scan_line-q.ensures tests.1 c.if-not-q.false
-    (sym c.is_state.ensures ∙ c.if-not-is_state.true))
+    let w = bad_read c.loop-i.invariant c.scan_line-q.result c.scan_line-q.ensures tests.1 (not-false _ c.if-not-q.false)
+    (sym c.is_state.ensures ∙ c.if-not-is_state.true) in
+    record { value = rw c.start.ensures w.0; block_after = w.1 }
 
 pub overflow_cast-block : goal.overflow_cast-block
 overflow_cast-block c =
@@ -40,7 +41,7 @@ offset_bounds-block-k c =
     let a = ltb p.i (length c.args.part.now) in
     let b = ltb p.k (length p.block) in
     (ltb-true _ _ (true_left a b c.loop-i-test.true), ltb-true _ _ (true_right a b c.loop-i-test.true))) in
-    let room : (let p = c.loop-i in p.k < length p.block) = ((tests c.before.before.before.before.before.before.before).1) in
+    let room : (let p = c.loop-i in p.k < length p.block) = (tests.1) in
     search (rules, room)
 
 pub bounds-block-k : goal.bounds-block-k
@@ -49,7 +50,7 @@ bounds-block-k c =
     let a = ltb p.i (length c.args.part.now) in
     let b = ltb p.k (length p.block) in
     (ltb-true _ _ (true_left a b c.loop-i-test.true), ltb-true _ _ (true_right a b c.loop-i-test.true))) in
-    let room : (let p = c.loop-i in p.k < length p.block) = ((tests c.before.before.before.before.before.before.before).1) in
+    let room : (let p = c.loop-i in p.k < length p.block) = (tests.1) in
     search (rules, room)
 
 pub overflow_add-k : goal.overflow_add-k
@@ -58,7 +59,7 @@ overflow_add-k c =
     let a = ltb p.i (length c.args.part.now) in
     let b = ltb p.k (length p.block) in
     (ltb-true _ _ (true_left a b c.loop-i-test.true), ltb-true _ _ (true_right a b c.loop-i-test.true))) in
-    let room : (let p = c.loop-i in p.k < length p.block) = ((tests c.before.before.before.before.before.before.before).1) in
+    let room : (let p = c.loop-i in p.k < length p.block) = (tests.1) in
     search (rules, room)
 
 pub loop-i-smaller : goal.loop-i-smaller
@@ -67,7 +68,7 @@ loop-i-smaller c =
     let a = ltb p.i (length c.args.part.now) in
     let b = ltb p.k (length p.block) in
     (ltb-true _ _ (true_left a b c.loop-i-test.true), ltb-true _ _ (true_right a b c.loop-i-test.true))) in
-    further c.loop-i.inv c.scan_line-q.result c.scan_line-q.ensures tests.1 c.if-not-q.false
+    further c.loop-i.invariant c.scan_line-q.result c.scan_line-q.ensures tests.1 (not-false _ c.if-not-q.false)
     tests.0
 
 pub loop-i-preserved : goal.loop-i-preserved
@@ -77,8 +78,10 @@ loop-i-preserved c =
     let b = ltb p.k (length p.block) in
     (ltb-true _ _ (true_left a b c.loop-i-test.true), ltb-true _ _ (true_right a b c.loop-i-test.true))) in
     rw c.start-l.ensures
-    (more_read c.loop-i.inv c.scan_line-q.result c.scan_line-q.ensures tests.1 c.if-not-q.false
+    (more_read c.loop-i.invariant c.scan_line-q.result c.scan_line-q.ensures tests.1 (not-false _ c.if-not-q.false)
     (sym c.is_state.ensures ∙ c.if-not-is_state.false))
 
 pub returns : goal.returns
-returns c = reached_stop c.loop-i.invariant c.loop-i-test.false
+returns c =
+    let w = reached_stop c.loop-i.invariant c.loop-i-test.false in
+    record { value = w.0; block_after = w.1 }
