@@ -23,16 +23,16 @@ put_each-requires c =
     let fits : ((c.args.count ≤ 4096) × (c.args.tick + c.args.count ≤ 18446744073709551615)) = (let a = c.args in
     let e = sym test ∙ c.if-count-tick.false in
     (ltb-false 4096 a.count (or_left (ltb 4096 a.count) (ltb 18446744073709551615 (a.tick + a.count)) e), ltb-false 18446744073709551615 (a.tick + a.count) (or_right (ltb 4096 a.count) (ltb 18446744073709551615 (a.tick + a.count)) e))) in
-    let few : (c.decimal-k.result ≤ 5) = (places_most 5 c.args.name c.decimal-k.result (omega arith) (omega (arith, c.ranges.name.fits)) c.decimal-k.ensures.1.0) in
+    let few : (c.decimal-k.result ≤ 5) = (places_most 5 c.args.name c.decimal-k.result (omega arith) (omega (arith, c.ranges.name.fits)) c.decimal-k.ensures.len) in
     let a = c.args in
     let n : 131072 ≡ length a.text.now = search rules in
     let m : 64 ≡ length a.words.now = search rules in
-    (omega (arith, n, fits.0), omega (arith, c.decimal-k.ensures.0.1, few), omega (arith, m, fits.0), omega (arith, fits.1))
+    (omega (arith, n, fits.0), omega (arith, c.decimal-k.ensures.in_bounds, few), omega (arith, m, fits.0), omega (arith, fits.1))
 
 pub returns : goal.returns
 returns c =
     let test : ((ltb 4096 c.args.count || ltb (18446744073709551615 - c.args.tick) c.args.count) ≡ (ltb 4096 c.args.count || ltb 18446744073709551615 (c.args.tick + c.args.count))) = (ap (λ (b : Bool). ltb 4096 c.args.count || b) (past_last c.args.tick c.args.count c.ranges.tick.fits)) in
-    let few : (c.decimal-k.result ≤ 5) = (places_most 5 c.args.name c.decimal-k.result (omega arith) (omega (arith, c.ranges.name.fits)) c.decimal-k.ensures.1.0) in
+    let few : (c.decimal-k.result ≤ 5) = (places_most 5 c.args.name c.decimal-k.result (omega arith) (omega (arith, c.ranges.name.fits)) c.decimal-k.ensures.len) in
     let a = c.args in
-    let p = c.decimal-k.ensures.1.1 ∙ decimal_is a.name c.decimal-k.result (omega (arith, few)) c.decimal-k.ensures.1.0 in
-    put_fitting a.name a.tick a.words.now a.count a.text.now c.put_each.new.0 c.put_each.result _ (sym test ∙ c.if-count-tick.false) p c.put_each.ensures
+    let p = c.decimal-k.ensures.digits ∙ decimal_is a.name c.decimal-k.result (omega (arith, few)) c.decimal-k.ensures.len in
+    put_fitting a.name a.tick a.words.now a.count a.text.now c.put_each.new.out c.put_each.result _ (sym test ∙ c.if-count-tick.false) p c.put_each.ensures
