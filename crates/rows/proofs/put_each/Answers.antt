@@ -1,13 +1,19 @@
 -- `rows::put_each` meets its contract. The invariant: i rows are in the buffer, and the front of the next row is there. Assumes nothing.
-use Prim.Native.Nat.{◌+◌, ◌-◌}
+use Prim.Native.Nat.{ℕ, ◌+◌, ◌-◌}
 use native.Mathlib.Omega.{arith}
 use mathlib.Core.Path.{◌≡◌, refl, sym, ◌∙◌}
+use mathlib.Core.List.{List}
 use lib.ListN.{length, take}
 use lib.Seq.{length-take-le}
 use Rattle.lists.proofs.Bits.{digit_lt}
 use Rattle.lists.specs.Bits.{bit_at}
 use Rattle.rows.proofs.Laws.{rows_more, rows_none, put_length}
+use Rattle.rows.specs.Code.Steps.{Fronted}
 use Rattle.rows.proofs.put_each.Goals as goal
+
+-- the front is in its buffer
+front_length : {name buffer : List ℕ} {tick k : ℕ} → Fronted name tick buffer k → length (take k buffer) ≡ k
+front_length f = length-take-le _ _ (omega (arith, f.short, f.within))
 
 pub loop-i-init : goal.loop-i-init
 loop-i-init c =
@@ -16,15 +22,12 @@ loop-i-init c =
     (rows_none _ _ _ (bit_at a.words.now), omega arith, rw e c.put_front-k.ensures, omega arith, refl)
 
 pub slice_bounds-put_row-end-in-loop-i : goal.slice_bounds-put_row-end-in-loop-i
-slice_bounds-put_row-end-in-loop-i c =
-    let front_length : (length (take c.loop-i.k c.loop-i.front) ≡ c.loop-i.k) = (let f = c.loop-i.invariant.2 in length-take-le _ _ (omega (arith, f.short, f.within))) in
-    sym front_length
+slice_bounds-put_row-end-in-loop-i c = sym (front_length c.loop-i.invariant.2)
 
 pub put_row-at-requires : goal.put_row-at-requires
 put_row-at-requires c =
-    let front_length : (length (take c.loop-i.k c.loop-i.front) ≡ c.loop-i.k) = (let f = c.loop-i.invariant.2 in length-take-le _ _ (omega (arith, f.short, f.within))) in
     let i = c.loop-i.invariant in
-    (omega (arith, c.requires.0, i.1, i.4, c.loop-i-test.true), rw front_length i.2.short, rw c.verdict_at.ensures (digit_lt (bit_at c.args.words.now c.loop-i.i)))
+    (omega (arith, c.requires.0, i.1, i.4, c.loop-i-test.true), rw (front_length i.2) i.2.short, rw c.verdict_at.ensures (digit_lt (bit_at c.args.words.now c.loop-i.i)))
 
 pub renew-k-requires : goal.renew-k-requires
 renew-k-requires c =
