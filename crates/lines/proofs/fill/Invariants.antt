@@ -1,12 +1,7 @@
 -- `lines::fill` meets its contract. The invariant: some lines were read, and the rest is still to be read. Assumes nothing.
-use Prim.Native.Nat.{◌-◌, ◌<◌}
-use mathlib.Core.Path.{sym, ◌∙◌}
-use borrow.Author.Rules.{rules}
-use borrow.Author.Tests.{not-true, not-false, ltb-true}
-use lib.Dec.{ltb}
-use Rattle.lists.proofs.Tests.{true_left, true_right}
+use Prim.Native.Nat.{◌-◌}
 use lib.ListN.{length}
-use Rattle.lines.proofs.Laws.{Reached, reached_none, reached_stop, more_read, part_read, bad_read, further, value_fits}
+use Rattle.lines.proofs.Laws.{Reached}
 use Rattle.lines.proofs.fill.Given as goal
 
 abbrev pub invariant-loop-i : goal.invariant-loop-i

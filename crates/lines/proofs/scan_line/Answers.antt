@@ -1,9 +1,5 @@
 -- `lines::scan_line` meets its contract. The invariant: what is scanned from here is what was to be scanned from the start. Assumes nothing.
-use mathlib.Core.Path.{◌≡◌, refl, sym, ◌∙◌}
-use Prim.Native.Nat.{◌-◌}
-use borrow.Author.Rules.{rules}
-use lib.ListN.{length, drop}
-use Rattle.lines.specs.Code.Steps.{scanned}
+use mathlib.Core.Path.{refl, sym, ◌∙◌}
 use Rattle.lines.proofs.Laws.{scan_none, scan_end, scan_more}
 use Rattle.lines.proofs.scan_line.Goals as goal
 

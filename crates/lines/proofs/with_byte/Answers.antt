@@ -1,5 +1,4 @@
 -- `lines::with_byte` meets its contract: each return rewrites with the tests that led there. Assumes nothing.
-use borrow.Author.Rules.{rules}
 use borrow.Author.Tests.{lt-ltb, le-ltb, le-leb, lt-leb}
 use Rattle.lines.specs.Lines.{with_byte}
 use Rattle.lines.proofs.with_byte.Goals as goal

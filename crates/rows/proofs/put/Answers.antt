@@ -1,10 +1,8 @@
 -- `rows::put` meets its contract. The invariant: the first i of s are put. Assumes nothing.
 use mathlib.Core.Path.{◌≡◌, refl, ◌∙◌}
-use Prim.Native.Nat.{◌≤◌, ◌-◌}
-use borrow.Author.Rules.{rules}
 use native.Mathlib.Omega.{arith}
-use lib.ListN.{length, take, length-set}
-use lib.Seq.{sets, take-length}
+use lib.ListN.{length, length-set}
+use lib.Seq.{take-length}
 use Rattle.rows.proofs.Laws.{sets_more}
 use Rattle.rows.proofs.put.Goals as goal
 

@@ -1,11 +1,8 @@
 -- `rows::put` meets its contract. The invariant: the first i of s are put. Assumes nothing.
-use mathlib.Core.Path.{◌≡◌, refl, ◌∙◌}
+use mathlib.Core.Path.{◌≡◌}
 use Prim.Native.Nat.{◌≤◌, ◌-◌}
-use borrow.Author.Rules.{rules}
-use native.Mathlib.Omega.{arith}
-use lib.ListN.{length, take, length-set}
-use lib.Seq.{sets, take-length}
-use Rattle.rows.proofs.Laws.{sets_more}
+use lib.ListN.{length, take}
+use lib.Seq.{sets}
 use Rattle.rows.proofs.put.Given as goal
 
 abbrev pub invariant-loop-i : goal.invariant-loop-i

@@ -1,16 +1,11 @@
 -- `rows::put_each` meets its contract. The invariant: i rows are in the buffer, and the front of the next row is there. Assumes nothing.
 use Prim.Native.Nat.{◌+◌, ◌-◌, ◌*◌, ◌≤◌}
-use native.Mathlib.Omega.{arith}
-use mathlib.Core.Path.{◌≡◌, refl, sym, ◌∙◌}
-use borrow.Author.Rules.{rules}
-use lib.ListN.{length, take}
-use lib.Seq.{length-take-le}
-use Rattle.lists.proofs.Bits.{digit_lt}
+use mathlib.Core.Path.{◌≡◌}
+use lib.ListN.{length}
 use Rattle.lists.specs.Sequence.{ticks}
 use Rattle.lists.specs.Bits.{bit_at}
 use Rattle.rows.specs.Rows.{Put, rows_from}
 use Rattle.rows.specs.Code.Steps.{Fronted}
-use Rattle.rows.proofs.Laws.{rows_more, rows_none, put_length}
 use Rattle.rows.proofs.put_each.Given as goal
 
 abbrev pub invariant-loop-i : goal.invariant-loop-i

@@ -1,11 +1,10 @@
 -- All digits but the last, and the last. Assumes nothing.
 use native.Mathlib.Omega.{arith}
-use borrow.Author.Rules.{rules}
 use Rattle.rows.proofs.Laws.{put_then, sum_is}
 use Rattle.rows.proofs.put_sum.Goals as goal
 
 pub returns : goal.returns
-returns c = (
-  rw (← sum_is c.args.a c.args.b c.ranges.a.fits c.ranges.b.fits) (put_then c.put_positive-c.ensures.0 c.put_byte.ensures),
-  omega (arith, c.put_positive-c.ensures.1, c.put_byte.ensures.place),
-)
+returns c = record {
+  put = rw (← sum_is c.args.a c.args.b c.ranges.a.fits c.ranges.b.fits) (put_then c.put_positive-c.ensures.put c.put_byte.ensures);
+  upper_bound = omega (arith, c.put_positive-c.ensures.upper_bound, c.put_byte.ensures.place);
+}

@@ -1,7 +1,6 @@
 -- Nothing is put where there is no room, and all of it otherwise. Assumes nothing.
 use native.Mathlib.Omega.{arith}
 use mathlib.Core.Path.{refl}
-use borrow.Author.Rules.{rules}
 use Rattle.rows.proofs.put_text.Goals as goal
 
 pub returns-then-at-out : goal.returns-then-at-out

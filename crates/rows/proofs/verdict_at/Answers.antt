@@ -2,7 +2,6 @@
 use native.Mathlib.Omega.{arith}
 use Rattle.lists.specs.Bits.{bit, bit_at}
 use Rattle.rows.proofs.Laws.{digit_is}
-use borrow.Author.Rules.{rules}
 use Rattle.rows.proofs.verdict_at.Goals as goal
 
 pub returns : goal.returns

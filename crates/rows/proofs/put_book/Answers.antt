@@ -1,0 +1,7 @@
+-- `rows::put_book` meets its contract. Assumes nothing.
+use Rattle.rows.proofs.Laws.{put_then}
+use Rattle.rows.proofs.put_book.Goals as goal
+
+pub returns : goal.returns
+returns c =
+    put_then c.put-a.ensures (put_then c.put_number-b.ensures.put (put_then c.put_byte-c.ensures (put_then c.put_number-d.ensures.put c.put_byte.ensures)))
