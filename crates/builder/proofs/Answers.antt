@@ -15,16 +15,16 @@ use Rattle.builder.specs.declared.Added.{Added}
 use Rattle.builder.specs.Adding.{node_rows_by, add_rule_rows, added_by}
 
 -- a capped delay is too long where the delay is
-pub long-cap : (d : ℕ) → ltb 4095 (cap d) ≡ ltb 4095 d
-long-cap d = go (ltb 4095 d) refl
+pub long_cap : (d : ℕ) → ltb 4095 (cap d) ≡ ltb 4095 d
+long_cap d = go (ltb 4095 d) refl
   where
     go : (b : Bool) → ltb 4095 d ≡ b → ltb 4095 (cap d) ≡ b
     go true e = let h : 4095 < d = ltb-true 4095 d e in lt-ltb 4095 (cap d) (omega arith)
     go false e = let h : d ≤ 4095 = ltb-false 4095 d e in le-ltb 4095 (cap d) (omega arith)
 
 -- so a capped delay has the same rows
-pub rows-capped : (count : ℕ) (n : Node) (delay : ℕ) {d f : ℕ} → f ≡ first (node_rows_by count d n) → d ≡ cap delay → f ≡ first (node_rows_by count delay n)
-rows-capped count n delay e h = e ∙ rw (h, long-cap)
+pub rows_capped : (count : ℕ) (n : Node) (delay : ℕ) {d f : ℕ} → f ≡ first (node_rows_by count d n) → d ≡ cap delay → f ≡ first (node_rows_by count delay n)
+rows_capped count n delay e h = e ∙ rw (h, long_cap)
 
 -- ---- the answer by its number, which is f
 module _ {n f : ℕ} (t longer : Table) (e : n ≡ f) where
@@ -35,8 +35,8 @@ module _ {n f : ℕ} (t longer : Table) (e : n ≡ f) where
   accepted_is z = let h : f ≡ 0 = sym e ∙ z in rw h
 
 -- ---- what is accepted has a free place
-pub node-place : (count d : ℕ) (n : Node) {f : ℕ} → f ≡ first (node_rows_by count d n) → f ≡ 0 → count < 64
-node-place count d n e z = leb-false 64 count (no_row (node_rows_by count d n) refl (sym e ∙ z) 3)
+pub node_place : (count d : ℕ) (n : Node) {f : ℕ} → f ≡ first (node_rows_by count d n) → f ≡ 0 → count < 64
+node_place count d n e z = leb-false 64 count (no_row (node_rows_by count d n) refl (sym e ∙ z) 3)
 
-pub rule-place : (t : Table) (r : Rule) {f : ℕ} → f ≡ first (add_rule_rows t r) → f ≡ 0 → t.rule_count < 8
-rule-place t r e z = leb-false 8 t.rule_count (no_row (add_rule_rows t r) refl (sym e ∙ z) 2)
+pub rule_place_lem : (t : Table) (r : Rule) {f : ℕ} → f ≡ first (add_rule_rows t r) → f ≡ 0 → t.rule_count < 8
+rule_place_lem t r e z = leb-false 8 t.rule_count (no_row (add_rule_rows t r) refl (sym e ∙ z) 2)

@@ -20,7 +20,7 @@ use Rattle.table.specs.declared.Table.{Table}
 use Rattle.table.proofs.Delays.{delay_used, delays_chain, delay_capped}
 use Rattle.builder.specs.Adding.{operand_past, node_rows_by, add_node_rows, with_node, adding_node}
 use Rattle.builder.specs.Built.{Delays}
-use Rattle.builder.proofs.Answers.{long-cap, rows-capped}
+use Rattle.builder.proofs.Answers.{long_cap, rows_capped}
 use Rattle.builder.proofs.Holding.{node_taken}
 
 -- two lists that hold the same below `count`
@@ -54,12 +54,12 @@ module _ (t : Table) (ds : List ℕ) (d : Delays t ds) where
       go : (b : Bool) → operand_past t.node_count n ≡ b → first (node_rows_by t.node_count (delay_over (take 64 ds) n) n) ≡ first (node_rows_by t.node_count (delay_over real n) n)
       go true e = rw e
       go false e =
-          let l : ltb 4095 (delay_over (take 64 ds) n) ≡ ltb 4095 (delay_over real n) = sym (long-cap (delay_over (take 64 ds) n)) ∙ ap (ltb 4095) (delay_over_held n e) ∙ long-cap (delay_over real n) in
+          let l : ltb 4095 (delay_over (take 64 ds) n) ≡ ltb 4095 (delay_over real n) = sym (long_cap (delay_over (take 64 ds) n)) ∙ ap (ltb 4095) (delay_over_held n e) ∙ long_cap (delay_over real n) in
           rw l
 
   -- THE LAW: over these delays a node has the number that it has over the table
   pub number_over : (n : Node) {v f : ℕ} → f ≡ first (node_rows_by t.node_count v n) → v ≡ cap (delay_over (take 64 ds) n) → f ≡ first (add_node_rows t n)
-  number_over n e h = rows-capped t.node_count n (delay_over (take 64 ds) n) e h ∙ same_number n
+  number_over n e h = rows_capped t.node_count n (delay_over (take 64 ds) n) e h ∙ same_number n
 
   -- ---- the delays with one more
   module _ (n : Node) (room : t.node_count < 64) where

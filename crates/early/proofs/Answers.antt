@@ -28,16 +28,16 @@ use Rattle.early.specs.Early.{refused, value, told_by, early_rows, early_number,
 use Rattle.early.specs.Code.Steps.{half, in_half, Columns, value_by, Answerable}
 
 -- ---- what two bits say
-value-by : (v : Value) {y n : Bool} → y ≡ is_yes v → n ≡ is_no v → value_by y n ≡ v
-value-by no e f = ap₂ value_by e f
-value-by undecided e f = ap₂ value_by e f
-value-by yes e f = ap₂ value_by e f
+value_by_lem : (v : Value) {y n : Bool} → y ≡ is_yes v → n ≡ is_no v → value_by y n ≡ v
+value_by_lem no e f = ap₂ value_by e f
+value_by_lem undecided e f = ap₂ value_by e f
+value_by_lem yes e f = ap₂ value_by e f
 
 -- bit t of node k's register in the half at p
-half-bit : (p k n t : ℕ) (f : ℕ → Bool) (ys : List ℕ) → p + scratch_words ≤ length ys → k < 64 → n ≤ 5120 → t < n → in_half p k n ys ≡ packed n f
+half_bit : (p k n t : ℕ) (f : ℕ → Bool) (ys : List ℕ) → p + scratch_words ≤ length ys → k < 64 → n ≤ 5120 → t < n → in_half p k n ys ≡ packed n f
     → bit (get_or ys (p + register_words * k + t / 64) 0) (t % 64) ≡ f t
 unfolding bit_at
-half-bit p k n t f ys l a b c e =
+half_bit p k n t f ys l a b c e =
     let w : t / 64 < words n = omega arith in
     let r : register (register_words * k) (words n) (half p ys) ≡ register (p + register_words * k) (words n) ys = register_part p scratch_words (register_words * k) (words n) ys l (omega arith) in
     ap (λ (x : ℕ). bit x (t % 64)) (sym (register_in (p + register_words * k) (words n) ys (t / 64) w))
@@ -50,32 +50,32 @@ pub known_by : {ns : List Node} {marks : ℕ} {states xs ys : List ℕ} (k tick 
     → value_by y n ≡ known (formula_at ns k) states tick
 known_by {ns} {states = states} {ys = ys} k tick r m a b c l e f =
     let at : register_words * k + tick / 64 ≡ 0 + register_words * k + tick / 64 = omega arith in
-    value-by (known (formula_at ns k) states tick)
-    (e ∙ ap (λ (w : ℕ). bit (get_or ys w 0) (tick % 64)) at ∙ half-bit 0 k (length states) tick _ ys (omega arith) a b c (r.yeses k (omega arith) m))
-    (f ∙ half-bit scratch_words k (length states) tick _ ys (omega arith) a b c (r.noes k (omega arith) m))
+    value_by_lem (known (formula_at ns k) states tick)
+    (e ∙ ap (λ (w : ℕ). bit (get_or ys w 0) (tick % 64)) at ∙ half_bit 0 k (length states) tick _ ys (omega arith) a b c (r.yeses k (omega arith) m))
+    (f ∙ half_bit scratch_words k (length states) tick _ ys (omega arith) a b c (r.noes k (omega arith) m))
 
 -- the scratch in the end
-pub cleared-is : (xs ys : List ℕ) {zs : List ℕ} → early_scratch_words ≤ length ys → zs ≡ replicate (length (mid_of 0 early_scratch_words ys)) 0
+pub cleared_is : (xs ys : List ℕ) {zs : List ℕ} → early_scratch_words ≤ length ys → zs ≡ replicate (length (mid_of 0 early_scratch_words ys)) 0
     → drop early_scratch_words ys ≡ drop early_scratch_words xs → zs ++ drop early_scratch_words ys ≡ both_cleared xs
-cleared-is xs ys h e d = ap₂ (λ (a b : List ℕ). a ++ b) (e ∙ ap (λ (n : ℕ). replicate n 0) (length_register 0 early_scratch_words ys (omega arith))) d
+cleared_is xs ys h e d = ap₂ (λ (a b : List ℕ). a ++ b) (e ∙ ap (λ (n : ℕ). replicate n 0) (length_register 0 early_scratch_words ys (omega arith))) d
 
 -- ---- the number
 -- no row fits
 pub record EarlyFits (t : Table) (rule states tick scratch : ℕ) : Type 0 where
   pub sound : Sound t
   pub rule_there : rule < t.rule_count
-  pub few-states : states ≤ 5120
+  pub few_states : states ≤ 5120
   pub scratch_fits : early_scratch_words ≤ scratch
   pub seen : tick < states
 
-pub early-fits : (t : Table) (rule states tick scratch : ℕ) → early_number t rule states tick scratch ≡ 0 → EarlyFits t rule states tick scratch
+pub early_fits : (t : Table) (rule states tick scratch : ℕ) → early_number t rule states tick scratch ≡ 0 → EarlyFits t rule states tick scratch
 unfolding early_number
-early-fits t rule states tick scratch e =
+early_fits t rule states tick scratch e =
     let no = no_row (early_rows (is_sound t) t.rule_count rule states tick scratch) refl e in
     record {
       sound = (sound_iff t).0 (not-false (is_sound t) (no 0));
       rule_there = leb-false t.rule_count rule (no 1);
-      few-states = ltb-false 5120 states (no 2);
+      few_states = ltb-false 5120 states (no 2);
       scratch_fits = ltb-false scratch early_scratch_words (no 3);
       seen = leb-false states tick (no 4);
     }
@@ -90,7 +90,7 @@ answerable {t} rule f =
     record {
       place = omega arith;
       fitting = λ i l. (fits_iff i (node_at t i)).1 (s.node i (omega arith));
-      short = f.few-states;
+      short = f.few_states;
       seen = f.seen;
       enough = f.scratch_fits;
     }

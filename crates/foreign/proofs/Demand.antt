@@ -21,7 +21,7 @@ use Rattle.session.specs.declared.Session.{Session}
 use Rattle.session.specs.declared.Answer.{Answer}
 use Rattle.session.specs.declared.Opening.{Opening}
 use Rattle.session.specs.Session.{Effect, no_session, with_seen, unfit_by, opening_by, feed_rows, close_rows, feeding_by, closing_by}
-use Rattle.session.proofs.Answers.{feed-fits}
+use Rattle.session.proofs.Answers.{feed_fits}
 use Rattle.session.proofs.Effects.{opened_is, opened_rule, opened_sound, feed_number, feed_accepted, feed_refused_lem, close_number_lem, close_accepted, close_refused}
 use Rattle.narrow.specs.Narrow.{wide_of, widen_rows, widening_by}
 use Rattle.narrow.proofs.Widening.{widened_fit, widen_refused, widen_same, widen_fit, fit_now, widened_alike}
@@ -76,9 +76,9 @@ module _ (width : Width) (b : List ℕ) (l : length b ≡ 558) where
         let s : held_in width b' ≡ e.answer.session = ap (held_in width) c.session ∙ back in
         λ i. record {
           answer = record { number = n i; count = k i; session = s i };
-          history = c.history-is i;
-          scratch = c.scratch-is i;
-          out = c.out-is i;
+          history = c.history_is i;
+          scratch = c.scratch_is i;
+          out = c.out_is i;
         }
 
   module _ (old : Bool) (h x o : List ℕ) where
@@ -90,7 +90,7 @@ module _ (width : Width) (b : List ℕ) (l : length b ≡ 558) where
       feed_back =
           counted_back feed_effect.answer
           (λ z. let a = feed_accepted (wait_of old) s h x o (limit width) block z in
-          let f = feed-fits (limit width) (unfit_by (wait_of old) s) s.seen (length block) (length h) (length x) (length o) a.1 in
+          let f = feed_fits (limit width) (unfit_by (wait_of old) s) s.seen (length block) (length h) (length x) (length o) a.1 in
           rw a.0 (refl, f.count))
           (λ n. ap (λ (e : Effect). e.answer.session) (feed_refused_lem (wait_of old) s h x o (limit width) block n).0)
 

@@ -18,11 +18,11 @@ use Rattle.table.specs.declared.Table.{Table}
 use Rattle.flat.specs.Flat.{table_from}
 use Rattle.early.specs.Early.{refused, value, early_rows, early_number, early_number_for, early_told}
 use Rattle.early.proofs.Promise.{relied}
-use Rattle.shell.specs.Answers.{valueNumber, earlyAnswer}
+use Rattle.shell.specs.Answers.{value_number, early_answer}
 use Rattle.foreign.specs.Early.{ForeignEarly}
 
 -- a value is known by its number
-value_of : (v w : Value) → valueNumber v ≡ valueNumber w → v ≡ w
+value_of : (v w : Value) → value_number v ≡ value_number w → v ≡ w
 value_of no no e = refl
 value_of no undecided e = absurd (omega arith)
 value_of no yes e = absurd (omega arith)
@@ -48,28 +48,28 @@ module _ (t : Table) (rule : ℕ) (states : List ℕ) (tick : ℕ) (scratch : Li
   is = known (watched_formula t rule) states tick
 
   -- the number 0 tells that a call is accepted
-  accepted : earlyAnswer (early_told t rule states tick scratch) % 256 ≡ 0 → number ≡ 0
+  accepted : early_answer (early_told t rule states tick scratch) % 256 ≡ 0 → number ≡ 0
   accepted e =
       ⊎_elim (λ (z : eqb number 0 ≡ true). eqb-true number 0 z)
       (λ (z : eqb number 0 ≡ false).
-      let q : number % 256 ≡ 0 = sym (ap (λ (b : Bool). earlyAnswer (pick b (value is) (refused number)) % 256) z) ∙ e in
+      let q : number % 256 ≡ 0 = sym (ap (λ (b : Bool). early_answer (pick b (value is) (refused number)) % 256) z) ∙ e in
       omega (arith, few, q)) (true_or_false (eqb number 0))
 
   -- and above it stands the value
-  told : (v : Value) → earlyAnswer (early_told t rule states tick scratch) ≡ 256 * valueNumber v → early_told t rule states tick scratch ≡ value v
+  told : (v : Value) → early_answer (early_told t rule states tick scratch) ≡ 256 * value_number v → early_told t rule states tick scratch ≡ value v
   told v e =
       ⊎_elim
       (λ (z : eqb number 0 ≡ true).
-      let q : 256 * valueNumber is ≡ 256 * valueNumber v = sym (ap (λ (b : Bool). earlyAnswer (pick b (value is) (refused number))) z) ∙ e in
+      let q : 256 * value_number is ≡ 256 * value_number v = sym (ap (λ (b : Bool). early_answer (pick b (value is) (refused number))) z) ∙ e in
       ap (λ (b : Bool). pick b (value is) (refused number)) z ∙ ap value (value_of is v (omega arith)))
       (λ (z : eqb number 0 ≡ false).
-      let q : number ≡ 256 * valueNumber v = sym (ap (λ (b : Bool). earlyAnswer (pick b (value is) (refused number))) z) ∙ e in
+      let q : number ≡ 256 * value_number v = sym (ap (λ (b : Bool). early_answer (pick b (value is) (refused number))) z) ∙ e in
       absurd (eqb-false number 0 z (omega (arith, few, q)))) (true_or_false (eqb number 0))
 
 pub foreign_early : ForeignEarly
 foreign_early = record {
   stays = λ table rule states tick scratch b e later scratch₂ z.
-      ap earlyAnswer
+      ap early_answer
       ((relied (table_from table) rule states tick scratch).stays b (told (table_from table) rule states tick scratch (decided b) e) later scratch₂
       (accepted (table_from table) rule (states ++ later) tick scratch₂ z));
   verdict = λ table rule states tick scratch b e. (relied (table_from table) rule states tick scratch).verdict b (told (table_from table) rule states tick scratch (decided b) e);

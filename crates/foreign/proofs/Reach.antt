@@ -14,7 +14,7 @@ use Rattle.table.specs.declared.Table.{Table}
 use Rattle.flat.specs.Flat.{table_from}
 use Rattle.reach.specs.Reach.{Reached, refused, empty, ticks, Among, reach_rows, reach_number, reached}
 use Rattle.reach.proofs.Promise.{relied}
-use Rattle.shell.specs.Answers.{reachAnswer, rangeAfter}
+use Rattle.shell.specs.Answers.{reach_answer, range_after}
 use Rattle.foreign.specs.Reach.{ForeignReach}
 
 small : (t : Table) (rule n s : ℕ) → reach_number t rule n s ≤ 255
@@ -22,18 +22,18 @@ unfolding reach_number
 small t rule n s = first_within 255 (reach_rows (is_sound t) t.rule_count rule n s) refl
 
 -- the number 0 tells that a call is accepted
-accepted_by_lem : (b : Bool) (x : Reached) (r : ℕ) → r ≤ 255 → eqb r 0 ≡ b → reachAnswer (pick b x (refused r)) % 256 ≡ 0 → r ≡ 0
+accepted_by_lem : (b : Bool) (x : Reached) (r : ℕ) → r ≤ 255 → eqb r 0 ≡ b → reach_answer (pick b x (refused r)) % 256 ≡ 0 → r ≡ 0
 accepted_by_lem true x r l q e = eqb-true r 0 q
 accepted_by_lem false x r l q e = omega (arith, l, e)
 
 -- a tick of the range lies between the words that the call wrote
 in_range_by : (x : Reached) (range : List ℕ) (i : ℕ) → Among x i
-    → (reachAnswer x ≡ 256) × (get_or (rangeAfter x range) 0 0 ≤ i) × (i ≤ get_or (rangeAfter x range) 1 0)
+    → (reach_answer x ≡ 256) × (get_or (range_after x range) 0 0 ≤ i) × (i ≤ get_or (range_after x range) 1 0)
 in_range_by (refused number) range i k = absurd k
 in_range_by empty range i k = absurd k
 in_range_by (ticks first last) range i k = (refl, k.0, k.1)
 
-untouched_by : (x : Reached) (range : List ℕ) → ¬ (reachAnswer x ≡ 256) → rangeAfter x range ≡ range
+untouched_by : (x : Reached) (range : List ℕ) → ¬ (reach_answer x ≡ 256) → range_after x range ≡ range
 untouched_by (refused number) range k = refl
 untouched_by empty range k = refl
 untouched_by (ticks first last) range k = absurd (k refl)

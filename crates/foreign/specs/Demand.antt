@@ -15,7 +15,7 @@ use Rattle.session.specs.Session.{no_session, opening_by, feeding_by, closing_by
 use Rattle.narrow.specs.Narrow.{wide_of, widening_by}
 use Rattle.flat.specs.Flat.{table_from, written}
 use Rattle.flat.specs.Sessions.{put_four, seen_place, session_from, renewed, narrow_from}
-use Rattle.shell.specs.Answers.{leaves, textAnswer, SimplifiesBy, stored, Called}
+use Rattle.shell.specs.Answers.{leaves, text_answer, SimplifiesBy, stored, Called}
 use Rattle.acts.specs.World.{Width, narrow, wide, limit}
 use Rattle.acts.specs.Claim.{Claim}
 use Rattle.mission.specs.Calls.{states_fed, verdicts_given, MeetsBy}
@@ -130,7 +130,7 @@ pub data CallsBy (wait : Formula → ℕ) (width : Width) (first start : List �
 -- what juntreak_read answers for a book, and juntreak_read_text for a text
 abbrev pub read_answer : Source → ℕ
 read_answer (book b) = code_of (reading b)
-read_answer (text x) = textAnswer (typed x)
+read_answer (text x) = text_answer (typed x)
 
 -- three calls that answered 0, as their contracts say; what a buffer held before is `old`
 pub record StartBy (wait : Formula → ℕ) : Type 0 where

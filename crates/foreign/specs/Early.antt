@@ -6,15 +6,15 @@ use Rattle.mltl.specs.Known.{decided}
 use Rattle.table.specs.Nodes.{watched_formula}
 use Rattle.flat.specs.Flat.{table_from}
 use Rattle.early.specs.Early.{early_told}
-use Rattle.shell.specs.Answers.{valueNumber, earlyAnswer}
+use Rattle.shell.specs.Answers.{value_number, early_answer}
 
 -- what a call answers on the bytes of a table
 abbrev pub early_for : List ℕ → ℕ → List ℕ → ℕ → List ℕ → ℕ
-early_for table rule states tick scratch = earlyAnswer (early_told (table_from table) rule states tick scratch)
+early_for table rule states tick scratch = early_answer (early_told (table_from table) rule states tick scratch)
 
 -- yes, or no
 abbrev pub decided_answer : Bool → ℕ
-decided_answer b = 256 * valueNumber (decided b)
+decided_answer b = 256 * value_number (decided b)
 
 pub record ForeignEarly : Type 0 where
   -- a later call that is accepted, which its number 0 tells, answers the same

@@ -5,14 +5,14 @@ use Rattle.mltl.specs.Mltl.{holds, DifferAt}
 use Rattle.table.specs.Nodes.{watched_formula}
 use Rattle.flat.specs.Flat.{table_from}
 use Rattle.reach.specs.Reach.{reached}
-use Rattle.shell.specs.Answers.{reachAnswer, rangeAfter}
+use Rattle.shell.specs.Answers.{reach_answer, range_after}
 
 -- what a call answers on the bytes of a table, and the words of `range` after it
 abbrev pub reach_for : List ℕ → ℕ → ℕ → ℕ → ℕ
-reach_for table rule n s = reachAnswer (reached (table_from table) rule n s)
+reach_for table rule n s = reach_answer (reached (table_from table) rule n s)
 
 abbrev pub range_for : List ℕ → ℕ → ℕ → ℕ → List ℕ → List ℕ
-range_for table rule n s range = rangeAfter (reached (table_from table) rule n s) range
+range_for table rule n s range = range_after (reached (table_from table) rule n s) range
 
 -- there is a range, and i lies in it
 pub record InRange (table : List ℕ) (rule n s : ℕ) (range : List ℕ) (i : ℕ) : Type 0 where

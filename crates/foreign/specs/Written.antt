@@ -7,13 +7,13 @@ use Rattle.book.specs.Reading.{reading, code_of}
 use Rattle.book.specs.Writing.{writing, written_into}
 use Rattle.flat.specs.Flat.{table_from, written}
 use Rattle.flat.specs.Sessions.{session_from}
-use Rattle.shell.specs.Answers.{leaves, writeAnswer}
+use Rattle.shell.specs.Answers.{leaves, write_answer}
 use Rattle.acts.specs.World.{Width}
 use Rattle.foreign.specs.Demand.{Call, Calls, Start}
 
 -- what a call answers on the bytes of a table and an output; the number and the length that the answer holds
 abbrev pub write_for : List ℕ → List ℕ → ℕ
-write_for table out = writeAnswer (writing (table_from table) (length out))
+write_for table out = write_answer (writing (table_from table) (length out))
 
 abbrev pub written_number : List ℕ → List ℕ → ℕ
 written_number table out = write_for table out % 65536

@@ -11,7 +11,7 @@ use Rattle.early.specs.declared.Decision.{Decision}
 use Rattle.early.specs.Early.{told_by, early_told, early_scratch, Decides}
 use Rattle.reach.specs.declared.Range.{Range}
 use Rattle.reach.specs.Reach.{Reached, reached_by, reached}
-use Rattle.shell.specs.Answers.{leaves, earlyAnswer, reachAnswer, rangeAfter, Simplifies}
+use Rattle.shell.specs.Answers.{leaves, early_answer, reach_answer, range_after, Simplifies}
 
 -- ---- the simplifier
 pub simplified_bytes : (b : List ℕ) {t : Table} {r : Simplified} {b' : List ℕ} → t ≡ table_from b → Promised t r
@@ -24,14 +24,14 @@ answered_by {rule = rule} {n = n} {states = states} {x = x} {o = o} {x' = x'} {o
 
 -- ---- what is known
 pub told_by_lem : {t u : Table} {rule : ℕ} {states : List ℕ} {tick : ℕ} {x : List ℕ} {d : Decision} {x' : List ℕ} {r : ℕ} → t ≡ u → Decides t rule states tick x d x'
-    → r ≡ earlyAnswer (told_by d) → (r ≡ earlyAnswer (early_told u rule states tick x)) × (x' ≡ early_scratch u rule states tick x)
+    → r ≡ early_answer (told_by d) → (r ≡ early_answer (early_told u rule states tick x)) × (x' ≡ early_scratch u rule states tick x)
 told_by_lem {rule = rule} {states = states} {tick = tick} {x = x} e p q = (
-  q ∙ ap earlyAnswer p.tells ∙ ap (λ (z : Table). earlyAnswer (early_told z rule states tick x)) e,
+  q ∙ ap early_answer p.tells ∙ ap (λ (z : Table). early_answer (early_told z rule states tick x)) e,
   p.clears ∙ ap (λ (z : Table). early_scratch z rule states tick x) e,
 )
 
 -- ---- the range of a bad reading
-pub reached_by_lem : {t u : Table} (rule n s : ℕ) (r : Range) {a : ℕ} {w' : List ℕ} (w : List ℕ) → t ≡ u → reached_by r ≡ reached t rule n s → w' ≡ rangeAfter (reached_by r) w
-    → a ≡ reachAnswer (reached_by r) → (a ≡ reachAnswer (reached u rule n s)) × (w' ≡ rangeAfter (reached u rule n s) w)
+pub reached_by_lem : {t u : Table} (rule n s : ℕ) (r : Range) {a : ℕ} {w' : List ℕ} (w : List ℕ) → t ≡ u → reached_by r ≡ reached t rule n s → w' ≡ range_after (reached_by r) w
+    → a ≡ reach_answer (reached_by r) → (a ≡ reach_answer (reached u rule n s)) × (w' ≡ range_after (reached u rule n s) w)
 reached_by_lem rule n s r w e p q a =
-    let k = p ∙ ap (λ (z : Table). reached z rule n s) e in (a ∙ ap reachAnswer k, q ∙ ap (λ (z : Reached). rangeAfter z w) k)
+    let k = p ∙ ap (λ (z : Table). reached z rule n s) e in (a ∙ ap reach_answer k, q ∙ ap (λ (z : Reached). range_after z w) k)

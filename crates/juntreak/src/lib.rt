@@ -20,7 +20,7 @@ ghost use Rattle.registers.specs.Registers.{after_call, after_write, place_numbe
 ghost use Rattle.noted.specs.Noted.{open_outcome, widen_outcome, feed_outcome, close_outcome};
 ghost use Rattle.flat.specs.Flat.{table_from, written};
 ghost use Rattle.flat.specs.Sessions.{session_from, renewed, narrow_from};
-ghost use Rattle.shell.specs.Answers.{leaves, textAnswer, writeAnswer, delayAnswer, splitAnswer, movesAnswer, registerAnswer, earlyAnswer, reachAnswer, rangeAfter, Simplifies, stored, Called};
+ghost use Rattle.shell.specs.Answers.{leaves, text_answer, write_answer, delay_answer, split_answer, moves_answer, register_answer, early_answer, reach_answer, range_after, Simplifies, stored, Called};
 ghost use Rattle.shell.specs.Scheduler.{leave_call, turn_call, close_call};
 
 use limits::{MAX_PARTS, NARROW_BYTES, SESSION_BYTES, STATUS_BYTES, TABLE_BYTES};
@@ -50,7 +50,7 @@ pub extern "C" fn juntreak_read(book: &[u8], table: &mut [u8; TABLE_BYTES]) -> u
 // 0 for typed rules that are accepted, or the number of the refusal and 256 times its place or line; with the table of those accepted.
 #[unsafe(no_mangle)]
 pub extern "C" fn juntreak_read_text(text: &[u8], table: &mut [u8; TABLE_BYTES]) -> u64
-    ensures { (result ≡ textAnswer (typed text.now)) × (table.new ≡ leaves (typed text.now).number (written (typed text.now).table table.old) table.old) }
+    ensures { (result ≡ text_answer (typed text.now)) × (table.new ≡ leaves (typed text.now).number (written (typed text.now).table table.old) table.old) }
 {
     let answer = text::read(text);
     shell::put_table(answer.number, answer.table, table);
@@ -60,7 +60,7 @@ pub extern "C" fn juntreak_read_text(text: &[u8], table: &mut [u8; TABLE_BYTES])
 // The book of the table: 0 and 65536 times its length in bytes, or the number of the refusal.
 #[unsafe(no_mangle)]
 pub extern "C" fn juntreak_write(table: &[u8; TABLE_BYTES], out: &mut [u8]) -> u32
-    ensures { (result ≡ writeAnswer (writing (table_from table.now) (length out.old))) × (out.new ≡ written_into (table_from table.now) out.old) }
+    ensures { (result ≡ write_answer (writing (table_from table.now) (length out.old))) × (out.new ≡ written_into (table_from table.now) out.old) }
 {
     let t = flat::read_table(table);
     let w = book::write(t, out);
@@ -70,7 +70,7 @@ pub extern "C" fn juntreak_write(table: &[u8; TABLE_BYTES], out: &mut [u8]) -> u
 // The delay of a rule of the table.
 #[unsafe(no_mangle)]
 pub extern "C" fn juntreak_delay(table: &[u8; TABLE_BYTES], rule: u32) -> u32
-    ensures { result ≡ delayAnswer (rule_delay (table_from table.now) rule) }
+    ensures { result ≡ delay_answer (rule_delay (table_from table.now) rule) }
 {
     let t = flat::read_table(table);
     let r = table::delay(t, rule as usize);
@@ -80,7 +80,7 @@ pub extern "C" fn juntreak_delay(table: &[u8; TABLE_BYTES], rule: u32) -> u32
 // The splitting of [lo, hi], with its parts.
 #[unsafe(no_mangle)]
 pub extern "C" fn juntreak_split(lo: u16, hi: u16, parts: &mut [u8; MAX_PARTS]) -> u32
-    ensures { (result ≡ splitAnswer (splitting lo hi)) × (parts.new ≡ leaves (splitting lo hi).number (splitting lo hi).parts parts.old) }
+    ensures { (result ≡ split_answer (splitting lo hi)) × (parts.new ≡ leaves (splitting lo hi).number (splitting lo hi).parts parts.old) }
 {
     let s = interval::split(lo, hi);
     let ks = s.parts;
@@ -91,7 +91,7 @@ pub extern "C" fn juntreak_split(lo: u16, hi: u16, parts: &mut [u8; MAX_PARTS]) 
 // The shorter splitting of [lo, hi], for F and G: the exponent, the count of moves and the leftover.
 #[unsafe(no_mangle)]
 pub extern "C" fn juntreak_moves(lo: u16, hi: u16) -> u64
-    ensures { result ≡ movesAnswer (doubling lo hi) }
+    ensures { result ≡ moves_answer (doubling lo hi) }
 {
     let d = interval::double(lo, hi);
     d.number as u64
@@ -124,7 +124,7 @@ pub extern "C" fn juntreak_early(
     tick: usize,
     scratch: &mut [u64],
 ) -> u32
-    ensures { (result ≡ earlyAnswer (early_told (table_from table.now) rule states.now tick scratch.old)) × (scratch.new ≡ early_scratch (table_from table.now) rule states.now tick scratch.old) }
+    ensures { (result ≡ early_answer (early_told (table_from table.now) rule states.now tick scratch.old)) × (scratch.new ≡ early_scratch (table_from table.now) rule states.now tick scratch.old) }
 {
     let t = flat::read_table(table);
     shell::early_code(early::decide(t, rule as usize, states, tick, scratch))
@@ -139,7 +139,7 @@ pub extern "C" fn juntreak_reach(
     tick: u64,
     range: &mut [u64; 2],
 ) -> u32
-    ensures { (result ≡ reachAnswer (reached (table_from table.now) rule length tick)) × (range.new ≡ rangeAfter (reached (table_from table.now) rule length tick) range.old) }
+    ensures { (result ≡ reach_answer (reached (table_from table.now) rule length tick)) × (range.new ≡ range_after (reached (table_from table.now) rule length tick) range.old) }
 {
     let t = flat::read_table(table);
     let r = reach::reach(t, rule as usize, length, tick);
@@ -315,7 +315,7 @@ pub extern "C" fn juntreak_register_write(
 // The byte at a place of the registers: 0 and 256 times the byte, or the number of the refusal.
 #[unsafe(no_mangle)]
 pub extern "C" fn juntreak_register_read(registers: &[u8; STATUS_BYTES], place: usize) -> u32
-    ensures { result ≡ registerAnswer (reading_of place registers.now) }
+    ensures { result ≡ register_answer (reading_of place registers.now) }
 {
     let r = registers::read(registers, place);
     r.number as u32 + 256 * (r.value as u32)

@@ -1,7 +1,6 @@
 // The limits and sizes of documents 01 and 02. specs/Limits has the same as definitions; include/juntreak.h with JUNTREAK_ before each.
 #![tactic(auto)]
 
-
 // ---- tables
 
 pub const MAX_NODES: usize = 64;

@@ -12,7 +12,7 @@ use Rattle.table.proofs.Soundness.{sound_now}
 use Rattle.session.specs.declared.Session.{Session}
 use Rattle.session.specs.declared.Opening.{Opening}
 use Rattle.session.specs.Session.{no_session, unfit_by}
-use Rattle.session.proofs.Answers.{fit-sound, sound-fit}
+use Rattle.session.proofs.Answers.{fit_sound, sound_fit}
 use Rattle.narrow.specs.declared.NarrowSession.{NarrowSession}
 use Rattle.narrow.specs.Narrow.{wide_of, widen_rows, widening_by, widening, Relied, WidenedAlike}
 
@@ -41,13 +41,13 @@ module _ (wait : Formula → ℕ) (s : Session) where
 
 -- its table is sound, and its rule is there
 pub widen_fit : (old : Bool) (s : Session) → (widening_by (wait_of old) s).number ≡ 0 → SoundBy (wait_of old) s.table × (s.rule < s.table.rule_count)
-widen_fit old s n = fit-sound old s (widen_number (wait_of old) s n)
+widen_fit old s n = fit_sound old s (widen_number (wait_of old) s n)
 
 pub relied : (n : NarrowSession) → Relied n
 relied n =
     let s = wide_of n in
     record {
-      accepted_exactly = (widen_fit false s, λ f. sym (ap (λ (o : Opening). o.number) (widened_fit delay s (sound-fit false s f.0 f.1))));
+      accepted_exactly = (widen_fit false s, λ f. sym (ap (λ (o : Opening). o.number) (widened_fit delay s (sound_fit false s f.0 f.1))));
       unchanged = λ e. let w = widen_same delay s e in (ap (λ (q : Session). q.table) w, ap (λ (q : Session). q.rule) w, ap (λ (q : Session). q.seen) w);
       refused = widen_refused delay s;
     }
@@ -55,7 +55,7 @@ relied n =
 -- ---- when the delay was the one before A5
 -- a session that was fit then is fit
 pub fit_now : (s : Session) → unfit_by old_delay s ≡ false → unfit_by delay s ≡ false
-fit_now s u = let f = fit-sound true s u in sound-fit false s (sound_now true s.table f.0) f.1
+fit_now s u = let f = fit_sound true s u in sound_fit false s (sound_now true s.table f.0) f.1
 
 module _ (s : Session) where
   fit_alike : unfit_by old_delay s ≡ false → widening s ≡ widening_by old_delay s

@@ -18,7 +18,7 @@ use Rattle.table.specs.Sound.{rule_delay_by}
 use Rattle.session.specs.declared.Session.{Session}
 use Rattle.session.specs.Session.{Effect, formula_of, delay_of, unfit_by, unfit, feed_count, feeding, closing_by}
 use Rattle.session.proofs.Effects.{feed_accepted, feed_refused_lem, close_accepted, close_refused}
-use Rattle.session.proofs.Answers.{delay_is, feed-fits, close_fits}
+use Rattle.session.proofs.Answers.{delay_is, feed_fits, close_fits}
 use Rattle.registers.specs.declared.Kind.{Kind}
 use Rattle.registers.specs.declared.Outcome.{Outcome}
 use Rattle.registers.specs.Registers.{after_call}
@@ -59,7 +59,7 @@ module _ (s : Session) (block h x o : List ℕ) where
   feed_countable p =
       let a = feed_accepted delay s h x o max_seen block
       (accepted (feeding s block h x o) (λ r. ap count_of (feed_refused_lem delay s h x o max_seen block r).0) p) in
-      let f = feed-fits max_seen (unfit s) s.seen (length block) (length h) (length x) (length o) a.1 in
+      let f = feed_fits max_seen (unfit s) s.seen (length block) (length h) (length x) (length o) a.1 in
       let c : (feeding s block h x o).answer.count ≡ feed_count (delay_of s) s (length block) = ap count_of a.0 in
       (f.fit, λ l. counts s.seen (length block) (delay_of s) c f.count)
     where

@@ -35,9 +35,9 @@ module _ (t : Table) (rule n s : ℕ) where
       go false absent = refl
 
   module _ (e : reach_number t rule n s ≡ 0) where
-    pub reach-fits : Fits t rule n s
+    pub reach_fits : Fits t rule n s
     unfolding reach_number
-    reach-fits =
+    reach_fits =
         let no = no_row (reach_rows (is_sound t) t.rule_count rule n s) refl e in
         record {
           sound = (sound_iff t).0 (not-false (is_sound t) (no 0));
@@ -48,7 +48,7 @@ module _ (t : Table) (rule n s : ℕ) where
     -- so that there is a delay
     pub delay_is : (rule_delay t rule).delay ≡ delay (watched_formula t rule)
     unfolding rule_delay_by
-    delay_is = rw ((sound_iff t).1 reach-fits.sound, lt-leb t.rule_count rule reach-fits.rule_there)
+    delay_is = rw ((sound_iff t).1 reach_fits.sound, lt-leb t.rule_count rule reach_fits.rule_there)
 
     pub told : reached t rule n s ≡ ticks_within (near (watched_formula t rule)) (delay (watched_formula t rule)) s
     told = rw e

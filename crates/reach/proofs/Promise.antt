@@ -17,7 +17,7 @@ use Rattle.table.proofs.Soundness.{sound_iff}
 use Rattle.reach.specs.Reach.{Reached, refused, empty, ticks, Among, Inside, ticks_within, reach_rows, reach_number, reached}
 use Rattle.reach.specs.Promise.{Relied}
 use Rattle.reach.proofs.Nears.{near_first}
-use Rattle.reach.proofs.Answers.{reach-fits, told}
+use Rattle.reach.proofs.Answers.{reach_fits, told}
 
 exactly_refused : (t : Table) (rule n s : ℕ) → (¬ (reach_number t rule n s ≡ 0)) ↔ (some_fits (reach_rows (is_sound t) t.rule_count rule n s) ≡ true)
 unfolding reach_number
@@ -44,11 +44,11 @@ module _ (t : Table) (rule n s : ℕ) where
   exact : reach_number t rule n s ≡ 0 → (i : ℕ) → Among (reached t rule n s) i ↔ ((i < n) × InReach (near f) (delay f) s i)
   exact e i =
       subst (λ (r : Reached). Among r i ↔ ((i < n) × InReach (near f) (delay f) s i)) (sym (told t rule n s e))
-      (within_iff (near f) (delay f) n s (reach-fits t rule n s e).inside (ltb s (near f)) refl i)
+      (within_iff (near f) (delay f) n s (reach_fits t rule n s e).inside (ltb s (near f)) refl i)
 
   in_mission : (b : Bool) → eqb (reach_number t rule n s) 0 ≡ b → Inside n (pick b (ticks_within (near f) (delay f) s) (refused (reach_number t rule n s)))
   in_mission true e =
-      let g = reach-fits t rule n s (eqb-true (reach_number t rule n s) 0 e) in
+      let g = reach_fits t rule n s (eqb-true (reach_number t rule n s) 0 e) in
       within_inside (near f) (delay f) n s g.inside (ltb s (near f)) refl (near_first t g.sound rule)
   in_mission false e = tt
 

@@ -1,7 +1,6 @@
 // The numbers of the refusals of documents 01 and 02. specs/Numbers has the same as definitions, include/juntreak.h with JUNTREAK_ before each.
 #![tactic(auto)]
 
-
 // ---- books, told with a record; INTERVAL also of a splitting
 
 pub const LENGTH: u8 = 1;

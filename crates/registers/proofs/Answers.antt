@@ -14,38 +14,38 @@ use Rattle.registers.specs.declared.Reading.{Reading}
 use Rattle.registers.specs.Registers.{flags_from, bytes_of, registers_from, accepted_by, refused_by, after_call, cleared, enabled, after_write, place_number, reading_of}
 
 module _ (b : List ℕ) {b' : List ℕ} {r k : Registers} (loaded : r ≡ registers_from b) (stored : b' ≡ bytes_of k) where
-  pub noted-accepted : (o : Outcome) → o.number ≡ 0 → k ≡ accepted_by o r → b' ≡ after_call o b
+  pub noted_accepted : (o : Outcome) → o.number ≡ 0 → k ≡ accepted_by o r → b' ≡ after_call o b
   unfolding after_call
-  noted-accepted o z e = rw (stored, e, loaded, eq-eqb o.number 0 z)
+  noted_accepted o z e = rw (stored, e, loaded, eq-eqb o.number 0 z)
 
-  pub noted-refused : (o : Outcome) → (o.number ≡ 0 → ⊥) → k ≡ refused_by o r → b' ≡ after_call o b
+  pub noted_refused : (o : Outcome) → (o.number ≡ 0 → ⊥) → k ≡ refused_by o r → b' ≡ after_call o b
   unfolding after_call
-  noted-refused o z e = rw (stored, e, loaded, ne_eqb o.number 0 z)
+  noted_refused o z e = rw (stored, e, loaded, ne_eqb o.number 0 z)
 
   module _ (place value : ℕ) {by : Flags} (flags : by ≡ flags_from value) where
-    pub written-status : place ≡ 0 → k ≡ cleared by r → (0 ≡ place_number place) × (b' ≡ after_write place value b)
+    pub written_status : place ≡ 0 → k ≡ cleared by r → (0 ≡ place_number place) × (b' ≡ after_write place value b)
     unfolding after_write
-    written-status z e = rw (z, stored, e, flags, loaded) (refl, refl)
+    written_status z e = rw (z, stored, e, flags, loaded) (refl, refl)
 
-    pub written-enable : place ≡ 1 → k ≡ enabled by r → (0 ≡ place_number place) × (b' ≡ after_write place value b)
+    pub written_enable : place ≡ 1 → k ≡ enabled by r → (0 ≡ place_number place) × (b' ≡ after_write place value b)
     unfolding after_write
-    written-enable z e = rw (z, stored, e, flags, loaded) (refl, refl)
+    written_enable z e = rw (z, stored, e, flags, loaded) (refl, refl)
 
-pub written-other : (place value : ℕ) (b : List ℕ) → (place ≡ 0 → ⊥) → (place ≡ 1 → ⊥) → b ≡ after_write place value b
+pub written_other : (place value : ℕ) (b : List ℕ) → (place ≡ 0 → ⊥) → (place ≡ 1 → ⊥) → b ≡ after_write place value b
 unfolding after_write
-written-other place value b p q = rw (ne_eqb place 0 p, ne_eqb place 1 q)
+written_other place value b p q = rw (ne_eqb place 0 p, ne_eqb place 1 q)
 
 -- ---- a place, and the number that is found for it
 module _ (place : ℕ) {n : ℕ} (b : List ℕ) (found : n ≡ place_number place) where
-  pub read-refused : (n ≡ 0 → ⊥) → ◌≡◌ {A = Reading} (record { number = n; value = 0 }) (reading_of place b)
-  read-refused z = rw (sym found, ne_eqb n 0 z)
+  pub read_refused : (n ≡ 0 → ⊥) → ◌≡◌ {A = Reading} (record { number = n; value = 0 }) (reading_of place b)
+  read_refused z = rw (sym found, ne_eqb n 0 z)
 
-  pub place-there : n ≡ 0 → place < 16
-  place-there z =
+  pub place_there : n ≡ 0 → place < 16
+  place_there z =
       ⊎_elim (λ (h : 15 < place). absurd (some_number (sym z ∙ found ∙ rw (lt-ltb 15 place h)))) (λ (h : place ≤ 15). omega arith) (lt_or_le 15 place)
     where
       some_number : ◌≡◌ {A = ℕ} 0 38 → ⊥
       some_number e = omega arith
 
-  pub read-accepted : n ≡ 0 → ◌≡◌ {A = Reading} (record { number = n; value = get_or b place 0 }) (reading_of place b)
-  read-accepted z = rw (sym found, eq-eqb n 0 z)
+  pub read_accepted : n ≡ 0 → ◌≡◌ {A = Reading} (record { number = n; value = get_or b place 0 }) (reading_of place b)
+  read_accepted z = rw (sym found, eq-eqb n 0 z)

@@ -19,7 +19,7 @@ use Rattle.verdict.specs.Verdict.{cleared}
 use Rattle.session.specs.declared.Session.{Session}
 use Rattle.session.specs.Session as session
 use Rattle.session.proofs.Effects as effects
-use Rattle.session.proofs.Answers.{unfit-short}
+use Rattle.session.proofs.Answers.{unfit_short}
 use Rattle.records.specs.declared.Record.{Record}
 use Rattle.records.specs.Records.{no_record, record_at, with_seen, with_waiting}
 use Rattle.scheduler.specs.Rotation.{next_waiting}
@@ -108,7 +108,7 @@ module _ (t : Table) (rs : List Record) (s : ℕ) (h w x o : List ℕ)
 
   pub fed_words : length (fed_at t rs s h w x o).history ≡ history_words
   fed_words =
-      let short : d ≤ 4095 = unfit-short false (session_of t r) (session_fit t rs fits_table s within) in
+      let short : d ≤ 4095 = unfit_short false (session_of t r) (session_fit t rs fits_table s within) in
       let trace : List ℕ = session.kept_of d (session_of t r) own ++ block in
       let kept : length (take (min r.seen d) own) ≡ min r.seen d = length-take (min r.seen d) own ∙ omega (arith, own_length) in
       let long : length trace ≡ min r.seen d + length block = length-append (take (min r.seen d) own) block ∙ ap (λ (k : ℕ). k + length block) kept in

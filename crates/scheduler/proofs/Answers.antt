@@ -31,23 +31,23 @@ use Rattle.scheduler.specs.Work.{next_place, misfits, told_of, unchanged, Stored
 use Rattle.scheduler.proofs.Fits.{LeaveFits, leave_fits, TurnFits, turn_fits, close_fits}
 
 -- ---- the words of one record are a part of the buffer
-first-words : (k n : ℕ) (xs : List ℕ) → take (min k n) xs ≡ take k (take n xs)
-first-words k n xs =
+first_words : (k n : ℕ) (xs : List ℕ) → take (min k n) xs ≡ take k (take n xs)
+first_words k n xs =
     ⊎_elim (λ (h : k < n). let e : min k n ≡ k = omega arith in rw e (sym (take-take k n xs (omega arith))))
     (λ (h : n ≤ k). let e : min k n ≡ n = omega arith in
-    rw e (sym (take_all k (take n xs) (let b = taken-few n xs in omega arith)))) (lt_or_le k n)
+    rw e (sym (take_all k (take n xs) (let b = taken_few n xs in omega arith)))) (lt_or_le k n)
   where
-    taken-few : (n : ℕ) (xs : List ℕ) → length (take n xs) ≤ n
-    taken-few n xs = let e = length-take n xs in omega arith
+    taken_few : (n : ℕ) (xs : List ℕ) → length (take n xs) ≤ n
+    taken_few n xs = let e = length-take n xs in omega arith
 
-pub fed-parts : (t : Table) (r : Record) (p : ℕ) (h w x o : List ℕ) {a : Step} {hl xl ol : List ℕ} (m kw kh : ℕ)
+pub fed_parts : (t : Table) (r : Record) (p : ℕ) (h w x o : List ℕ) {a : Step} {hl xl ol : List ℕ} (m kw kh : ℕ)
     → m ≡ min r.waiting waiting_words → kw ≡ m → kh ≡ history_words → length hl ≡ history_words
     → ◌≡◌ {A = StepEffect} (record { step = a; history = hl; scratch = xl; out = ol })
     (step_effect (feeding (session_of t r) (mid_of (waiting_words * p) kw w) (mid_of (history_words * p) kh h) x o))
     → ◌≡◌ {A = StepEffect} (record { step = a; history = put_mid (history_words * p) kh h hl; scratch = xl; out = ol }) (fed_in t r p h w x o)
-fed-parts t r p h w x o {a} {hl} {xl} {ol} m kw kh em ew eh long e =
+fed_parts t r p h w x o {a} {hl} {xl} {ol} m kw kh em ew eh long e =
     let b : mid_of (waiting_words * p) kw w ≡ block_of r p w =
-    ap (λ (k : ℕ). take k (drop (waiting_words * p) w)) (ew ∙ em) ∙ first-words r.waiting waiting_words (drop (waiting_words * p) w) in
+    ap (λ (k : ℕ). take k (drop (waiting_words * p) w)) (ew ∙ em) ∙ first_words r.waiting waiting_words (drop (waiting_words * p) w) in
     let c : mid_of (history_words * p) kh h ≡ part_of history_words p h = ap (λ (k : ℕ). take k (drop (history_words * p) h)) eh in
     let q : ◌≡◌ {A = StepEffect} (record { step = a; history = hl; scratch = xl; out = ol }) (step_effect (feeding (session_of t r) (block_of r p w) (part_of history_words p h) x o)) =
     e ∙ ap₂ (λ (u v : List ℕ). step_effect (feeding (session_of t r) u v x o)) b c in
@@ -64,12 +64,12 @@ closed_parts t r p h x o {z} {a} {xl} {ol} kh ez eh e =
     (e ∙ ap (λ (u : Session). closing u (mid_of (history_words * p) kh h) x o) ez)
 
 -- ---- by the session's number
-pub served-no : (a : Step) (r : Record) (p from n : ℕ) {k : Turning} → (a.number ≡ 0 → ⊥) → k ≡ not_served a.number from n → k ≡ served_by a r p from n
-served-no a r p from n z e = e ∙ rw (ne_eqb a.number 0 z)
+pub served_no : (a : Step) (r : Record) (p from n : ℕ) {k : Turning} → (a.number ≡ 0 → ⊥) → k ≡ not_served a.number from n → k ≡ served_by a r p from n
+served_no a r p from n z e = e ∙ rw (ne_eqb a.number 0 z)
 
-pub served-yes : (a : Step) (r : Record) (p from n : ℕ) → a.number ≡ 0
+pub served_yes : (a : Step) (r : Record) (p from n : ℕ) → a.number ≡ 0
     → ◌≡◌ {A = Turning} (record { number = 0; served = true; place = p; count = a.count; change = record { place = p; seen = r.seen + r.waiting; waiting = 0 } }) (served_by a r p from n)
-served-yes a r p from n z = rw (eq-eqb a.number 0 z)
+served_yes a r p from n z = rw (eq-eqb a.number 0 z)
 
 pub closed_no : (a : Answer) (i n : ℕ) {r : Closing} → (a.number ≡ 0 → ⊥) → r ≡ not_closed a.number n → r ≡ closed_by a i n
 closed_no a i n z e = e ∙ rw (ne_eqb a.number 0 z)
@@ -79,29 +79,29 @@ pub closed_yes : (a : Answer) (i n : ℕ) → a.number ≡ 0
 closed_yes a i n z = rw (eq-eqb a.number 0 z)
 
 -- ---- a number that is told
-told-sound : (t : Table) (n : ℕ) → told_of t n ≡ 0 → is_sound t ≡ true
-told-sound t n e =
+told_sound : (t : Table) (n : ℕ) → told_of t n ≡ 0 → is_sound t ≡ true
+told_sound t n e =
     ⊎_elim (λ (s : is_sound t ≡ true). s) (λ (s : is_sound t ≡ false). absurd (let q : UNSOUND ≡ 0 = rw s at e in omega arith)) (true_or_false (is_sound t))
 
 pub told_none : (t : Table) (n : ℕ) → told_of t n ≡ 0 → n ≡ 0
-told_none t n e = rw (told-sound t n e) at e
+told_none t n e = rw (told_sound t n e) at e
 
-told-unsound : (t : Table) → (told_of t 0 ≡ 0 → ⊥) → is_sound t ≡ false
-told-unsound t z =
+told_unsound : (t : Table) → (told_of t 0 ≡ 0 → ⊥) → is_sound t ≡ false
+told_unsound t z =
     ⊎_elim (λ (s : is_sound t ≡ true). absurd (z (rw s))) (λ (s : is_sound t ≡ false). s) (true_or_false (is_sound t))
 
 -- ---- where nobody waits: the table is not sound, or the scratch is cleared
-pub passed-no : (t : Table) (from n m : ℕ) (x : List ℕ) {r : Turning} → m ≡ told_of t 0 → (m ≡ 0 → ⊥) → r ≡ not_served m from n
+pub passed_no : (t : Table) (from n m : ℕ) (x : List ℕ) {r : Turning} → m ≡ told_of t 0 → (m ≡ 0 → ⊥) → r ≡ not_served m from n
     → (r ≡ not_served (told_of t 0) from n) × (x ≡ pick (is_sound t) (cleared x) x)
-passed-no t from n m x e z q = (q ∙ ap (λ (k : ℕ). not_served k from n) e, rw (told-unsound t (λ k. z (e ∙ k))))
+passed_no t from n m x e z q = (q ∙ ap (λ (k : ℕ). not_served k from n) e, rw (told_unsound t (λ k. z (e ∙ k))))
 
-pub passed-yes : (t : Table) (from n m : ℕ) (x : List ℕ) {r : Turning} {z : List ℕ} → m ≡ told_of t 0 → m ≡ 0 → r ≡ not_served 0 from n → z ≡ cleared x
+pub passed_yes : (t : Table) (from n m : ℕ) (x : List ℕ) {r : Turning} {z : List ℕ} → m ≡ told_of t 0 → m ≡ 0 → r ≡ not_served 0 from n → z ≡ cleared x
     → (r ≡ not_served (told_of t 0) from n) × (z ≡ pick (is_sound t) (cleared x) x)
-passed-yes t from n m x e z q k = (q ∙ ap (λ (k : ℕ). not_served k from n) (sym z ∙ e), k ∙ rw (told-sound t 0 (sym e ∙ z)))
+passed_yes t from n m x e z q k = (q ∙ ap (λ (k : ℕ). not_served k from n) (sym z ∙ e), k ∙ rw (told_sound t 0 (sym e ∙ z)))
 
 -- the first words of the scratch are zero
-pub zeros-before : (k : ℕ) (x z : List ℕ) → k ≡ scratch_words → scratch_words ≤ length x → z ≡ replicate (length (mid_of 0 k x)) 0 → put_mid 0 k x z ≡ cleared x
-zeros-before k x z e h q =
+pub zeros_before : (k : ℕ) (x z : List ℕ) → k ≡ scratch_words → scratch_words ≤ length x → z ≡ replicate (length (mid_of 0 k x)) 0 → put_mid 0 k x z ≡ cleared x
+zeros_before k x z e h q =
     let l : length (mid_of 0 k x) ≡ scratch_words = ap (λ (j : ℕ). length (take j x)) e ∙ length-take-le scratch_words x h in
     ap (λ (y : List ℕ). put_mid 0 k x y) (q ∙ ap (λ (j : ℕ). replicate j 0) l) ∙ ap (λ (j : ℕ). replicate scratch_words 0 ++ drop j x) e
 
@@ -114,19 +114,19 @@ pub record LeaveTried (t : Table) (s : Summary) (i : ℕ) (block w : List ℕ) (
   pub number : n ≡ told_of t m
 
 module _ {t : Table} {s : Summary} {i : ℕ} {block w : List ℕ} {r : Record} {b : Bool} {m n : ℕ} (g : LeaveTried t s i block w r b m n) where
-  leave-is : n ≡ leave_number_in t s i (length block) (length w)
-  leave-is = g.number ∙ ap (told_of t) (g.rows ∙ ap₂ (λ (b : Bool) (r : Record). first (leave_rows b s.count r i (length block) (length w))) g.bad g.found)
+  leave_is : n ≡ leave_number_in t s i (length block) (length w)
+  leave_is = g.number ∙ ap (told_of t) (g.rows ∙ ap₂ (λ (b : Bool) (r : Record). first (leave_rows b s.count r i (length block) (length w))) g.bad g.found)
 
-  pub left-no : {c : Change} → (n ≡ 0 → ⊥) → c ≡ unchanged s.count
+  pub left_no : {c : Change} → (n ≡ 0 → ⊥) → c ≡ unchanged s.count
       → ◌≡◌ {A = Stored} (record { done = record { number = n; change = c }; waiting = w }) (leave_work t s i block w)
   unfolding leave_work
-  left-no z e = (λ j. record { done = record { number = n; change = e j }; waiting = w }) ∙ rw (← leave-is, ne_eqb n 0 z)
+  left_no z e = (λ j. record { done = record { number = n; change = e j }; waiting = w }) ∙ rw (← leave_is, ne_eqb n 0 z)
 
-  pub left-yes : {z : List ℕ} → n ≡ 0 → z ≡ pasted (waiting_words * i) block w
+  pub left_yes : {z : List ℕ} → n ≡ 0 → z ≡ pasted (waiting_words * i) block w
       → ◌≡◌ {A = Stored} (record { done = record { number = 0; change = record { place = i; seen = r.seen; waiting = length block } }; waiting = z }) (leave_work t s i block w)
   unfolding leave_work
-  left-yes k e =
-      (λ j. record { done = record { number = 0; change = record { place = i; seen = (g.found j).seen; waiting = length block } }; waiting = e j }) ∙ rw (← leave-is, eq-eqb n 0 k)
+  left_yes k e =
+      (λ j. record { done = record { number = 0; change = record { place = i; seen = (g.found j).seen; waiting = length block } }; waiting = e j }) ∙ rw (← leave_is, eq-eqb n 0 k)
 
   pub left_fits : n ≡ 0 → LeaveFits b s.count r i (length block) (length w)
   left_fits k = leave_fits b s.count r i (length block) (length w) (sym g.rows ∙ told_none t m (sym g.number ∙ k))
@@ -146,48 +146,48 @@ module _ {t : Table} {s : Summary} {from : ℕ} {h w x o : List ℕ} {p : ℕ} {
   record_is : r ≡ record_at s.records served_place
   record_is = g.found ∙ ap (record_at s.records) g.place
 
-  abbrev of-turn : ℕ
-  of-turn = first (turn_rows (misfits t.rule_count s) s.count (record_at s.records served_place) (length h) (length w) (length x) (length o))
+  abbrev of_turn : ℕ
+  of_turn = first (turn_rows (misfits t.rule_count s) s.count (record_at s.records served_place) (length h) (length w) (length x) (length o))
 
-  turn_is : n ≡ of-turn
+  turn_is : n ≡ of_turn
   turn_is = g.number ∙ ap₂ (λ (b : Bool) (r : Record). first (turn_rows b s.count r (length h) (length w) (length x) (length o))) g.bad record_is
 
-  pub turned-no : {k : ℕ} {d : Turning} → (n ≡ 0 → ⊥) → k ≡ told_of t n → d ≡ not_served k from s.count
+  pub turned_no : {k : ℕ} {d : Turning} → (n ≡ 0 → ⊥) → k ≡ told_of t n → d ≡ not_served k from s.count
       → ◌≡◌ {A = Serving} (record { done = d; history = h; scratch = x; out = o }) (turn_work t s from h w x o)
   unfolding turn_work
-  turned-no z ek ed =
+  turned_no z ek ed =
       ap (λ (u : Turning). record { done = u; history = h; scratch = x; out = o }) (ed ∙ ap (λ (k : ℕ). not_served k from s.count) (ek ∙ ap (told_of t) turn_is))
-      ∙ rw (ne_eqb of-turn 0 (λ q. z (turn_is ∙ q)))
+      ∙ rw (ne_eqb of_turn 0 (λ q. z (turn_is ∙ q)))
 
-  pub turned-idle : {d : Turning} {xl : List ℕ} → n ≡ 0 → s.count ≤ p → (d ≡ not_served (told_of t 0) from s.count) × (xl ≡ pick (is_sound t) (cleared x) x)
+  pub turned_idle : {d : Turning} {xl : List ℕ} → n ≡ 0 → s.count ≤ p → (d ≡ not_served (told_of t 0) from s.count) × (xl ≡ pick (is_sound t) (cleared x) x)
       → ◌≡◌ {A = Serving} (record { done = d; history = h; scratch = xl; out = o }) (turn_work t s from h w x o)
   unfolding turn_work
-  turned-idle z l e =
+  turned_idle z l e =
       (λ j. record { done = e.0 j; history = h; scratch = e.1 j; out = o })
-      ∙ rw (eq-eqb of-turn 0 (sym turn_is ∙ z), le-ltb served_place s.count (omega (arith, g.place)))
+      ∙ rw (eq-eqb of_turn 0 (sym turn_is ∙ z), le-ltb served_place s.count (omega (arith, g.place)))
 
-  pub turned-served : {a : Step} {hl xl ol : List ℕ} {d : Turning} → n ≡ 0 → p < s.count
+  pub turned_served : {a : Step} {hl xl ol : List ℕ} {d : Turning} → n ≡ 0 → p < s.count
       → ◌≡◌ {A = StepEffect} (record { step = a; history = hl; scratch = xl; out = ol }) (fed_in t r p h w x o) → d ≡ served_by a r p from s.count
       → ◌≡◌ {A = Serving} (record { done = d; history = hl; scratch = xl; out = ol }) (turn_work t s from h w x o)
   unfolding turn_work
-  turned-served {hl = hl} {xl = xl} {ol = ol} z l e ed =
+  turned_served {hl = hl} {xl = xl} {ol = ol} z l e ed =
       ap (λ (u : Turning). record { done = u; history = hl; scratch = xl; out = ol }) ed
       ∙ ap (λ (f : StepEffect). record { done = served_by f.step r p from s.count; history = f.history; scratch = f.scratch; out = f.out }) e
       ∙ ap₂ (λ (u : Record) (k : ℕ). serve_work t u k from s.count h w x o) record_is g.place
-      ∙ rw (eq-eqb of-turn 0 (sym turn_is ∙ z), lt-ltb served_place s.count (omega (arith, g.place)))
+      ∙ rw (eq-eqb of_turn 0 (sym turn_is ∙ z), lt-ltb served_place s.count (omega (arith, g.place)))
 
-  turn-fit : n ≡ 0 → TurnFits b s.count r (length h) (length w) (length x) (length o)
-  turn-fit z = turn_fits b s.count r (length h) (length w) (length x) (length o) (sym g.number ∙ z)
+  turn_fit : n ≡ 0 → TurnFits b s.count r (length h) (length w) (length x) (length o)
+  turn_fit z = turn_fits b s.count r (length h) (length w) (length x) (length o) (sym g.number ∙ z)
 
-  pub turned-scratch : n ≡ 0 → scratch_words ≤ length x
-  turned-scratch z = (turn-fit z).scratch
+  pub turned_scratch : n ≡ 0 → scratch_words ≤ length x
+  turned_scratch z = (turn_fit z).scratch
 
-  pub turned-count : n ≡ 0 → r.seen + r.waiting ≤ max_seen
-  turned-count z = (turn-fit z).count
+  pub turned_count : n ≡ 0 → r.seen + r.waiting ≤ max_seen
+  turned_count z = (turn_fit z).count
 
   pub servable : n ≡ 0 → p < s.count → Servable p h w
   servable z l =
-      let f = turn-fit z in
+      let f = turn_fit z in
       let a : s.count ≤ max_list = f.short in
       let c : history_words * s.count ≤ length h = f.history in
       let d : waiting_words * s.count ≤ length w = f.room in
@@ -201,27 +201,27 @@ pub record CloseTried (t : Table) (s : Summary) (i : ℕ) (h x o : List ℕ) (r 
   pub number : n ≡ first (close_rows b s.count r i (length h) (length x) (length o))
 
 module _ {t : Table} {s : Summary} {i : ℕ} {h x o : List ℕ} {r : Record} {b : Bool} {n : ℕ} (g : CloseTried t s i h x o r b n) where
-  abbrev of-close : ℕ
-  of-close = first (close_rows (misfits t.rule_count s) s.count (record_at s.records i) i (length h) (length x) (length o))
+  abbrev of_close : ℕ
+  of_close = first (close_rows (misfits t.rule_count s) s.count (record_at s.records i) i (length h) (length x) (length o))
 
-  close_is : n ≡ of-close
+  close_is : n ≡ of_close
   close_is = g.number ∙ ap₂ (λ (b : Bool) (r : Record). first (close_rows b s.count r i (length h) (length x) (length o))) g.bad g.found
 
-  pub ended-no : {k : ℕ} {d : Closing} → (n ≡ 0 → ⊥) → k ≡ told_of t n → d ≡ not_closed k s.count
+  pub ended_no : {k : ℕ} {d : Closing} → (n ≡ 0 → ⊥) → k ≡ told_of t n → d ≡ not_closed k s.count
       → ◌≡◌ {A = Ending} (record { done = d; scratch = x; out = o }) (close_work t s i h x o)
   unfolding close_work
-  ended-no z ek ed =
+  ended_no z ek ed =
       ap (λ (u : Closing). record { done = u; scratch = x; out = o }) (ed ∙ ap (λ (k : ℕ). not_closed k s.count) (ek ∙ ap (told_of t) close_is))
-      ∙ rw (ne_eqb of-close 0 (λ q. z (close_is ∙ q)))
+      ∙ rw (ne_eqb of_close 0 (λ q. z (close_is ∙ q)))
 
-  pub ended-yes : {a : Answer} {hl xl ol : List ℕ} {d : Closing} → n ≡ 0
+  pub ended_yes : {a : Answer} {hl xl ol : List ℕ} {d : Closing} → n ≡ 0
       → ◌≡◌ {A = Effect} (record { answer = a; history = hl; scratch = xl; out = ol }) (closed_in t r i h x o) → d ≡ closed_by a i s.count
       → ◌≡◌ {A = Ending} (record { done = d; scratch = xl; out = ol }) (close_work t s i h x o)
   unfolding close_work
-  ended-yes {xl = xl} {ol = ol} z e ed =
+  ended_yes {xl = xl} {ol = ol} z e ed =
       ap (λ (u : Closing). record { done = u; scratch = xl; out = ol }) ed
       ∙ ap (λ (f : Effect). record { done = closed_by f.answer i s.count; scratch = f.scratch; out = f.out }) (e ∙ ap (λ (u : Record). closed_in t u i h x o) g.found)
-      ∙ rw (eq-eqb of-close 0 (sym close_is ∙ z))
+      ∙ rw (eq-eqb of_close 0 (sym close_is ∙ z))
 
   pub endable : n ≡ 0 → Endable i h
   endable z =

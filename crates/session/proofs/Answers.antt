@@ -21,7 +21,7 @@ use Rattle.table.specs.Nodes.{formula_at, rule_at, wait_of}
 use Rattle.table.specs.Sound.{SoundBy, is_sound_by, delay_number_by, rule_delay_by, delay_number, rule_delay}
 use Rattle.table.proofs.Soundness.{wait_sound_iff, sound_now, watched_short}
 use Rattle.verdict.specs.Verdict.{with_verdicts, cleared, ready, Judged}
-use Rattle.verdict.proofs.Answers.{ready-sound}
+use Rattle.verdict.proofs.Answers.{ready_sound}
 use Rattle.session.specs.declared.Session.{Session}
 use Rattle.session.specs.declared.Opening.{Opening}
 use Rattle.session.specs.Session.{Effect, formula_of, delay_of, no_session, opening_by, opening, refused, unfit_by, with_seen, verdict_words, feed_rows, feed_number_by, fed, feeding_by, feeding, close_rows, close_number_by, closed, closing_by}
@@ -36,42 +36,42 @@ module _ (t : Table) (r : ℕ) {d : RuleDelay} (e : d ≡ rule_delay t r) where
       let z : eqb (delay_number t r) 0 ≡ false = ne_eqb (delay_number t r) 0 (λ k. n (q ∙ k)) in
       rw (q, p, z)
 
-  pub open-accepted : d.number ≡ 0 → ◌≡◌ {A = Opening} (record { number = 0; session = record { table = t; rule = r; seen = 0 } }) (opening t r)
+  pub open_accepted : d.number ≡ 0 → ◌≡◌ {A = Opening} (record { number = 0; session = record { table = t; rule = r; seen = 0 } }) (opening t r)
   unfolding opening_by rule_delay_by
-  open-accepted n =
+  open_accepted n =
       let q : delay_number t r ≡ 0 = sym (ap (λ (x : RuleDelay). x.number) e) ∙ n in
       rw q
 
 -- ---- the numbers
 -- the count passes the limit
-pub over-limit : (seen k : ℕ) → seen ≤ max_seen → ltb (max_seen - seen) k ≡ ltb max_seen (seen + k)
-over-limit seen k h = same_test _ _ (ltb_iff (max_seen - seen) k) (ltb_iff max_seen (seen + k)) (λ l. omega arith) (λ l. omega arith)
+pub over_limit : (seen k : ℕ) → seen ≤ max_seen → ltb (max_seen - seen) k ≡ ltb max_seen (seen + k)
+over_limit seen k h = same_test _ _ (ltb_iff (max_seen - seen) k) (ltb_iff max_seen (seen + k)) (λ l. omega arith) (λ l. omega arith)
 
 module _ (old : Bool) where
   -- a session that is not unfit: its table is sound, and its rule is there
-  fit-tests : (s : Session) → unfit_by (wait_of old) s ≡ false → (is_sound_by (wait_of old) s.table ≡ true) × (leb s.table.rule_count s.rule ≡ false)
-  fit-tests s u = (
+  fit_tests : (s : Session) → unfit_by (wait_of old) s ≡ false → (is_sound_by (wait_of old) s.table ≡ true) × (leb s.table.rule_count s.rule ≡ false)
+  fit_tests s u = (
     not-false (is_sound_by (wait_of old) s.table) (or_left (not (is_sound_by (wait_of old) s.table)) _ u),
     or_right (not (is_sound_by (wait_of old) s.table)) (leb s.table.rule_count s.rule) u,
   )
 
-  pub fit-sound : (s : Session) → unfit_by (wait_of old) s ≡ false → SoundBy (wait_of old) s.table × (s.rule < s.table.rule_count)
-  fit-sound s u = let t = fit-tests s u in ((wait_sound_iff old s.table).0 t.0, leb-false s.table.rule_count s.rule t.1)
+  pub fit_sound : (s : Session) → unfit_by (wait_of old) s ≡ false → SoundBy (wait_of old) s.table × (s.rule < s.table.rule_count)
+  fit_sound s u = let t = fit_tests s u in ((wait_sound_iff old s.table).0 t.0, leb-false s.table.rule_count s.rule t.1)
 
-  pub sound-fit : (s : Session) → SoundBy (wait_of old) s.table → s.rule < s.table.rule_count → unfit_by (wait_of old) s ≡ false
-  sound-fit s z r = rw ((wait_sound_iff old s.table).1 z, lt-leb s.table.rule_count s.rule r)
+  pub sound_fit : (s : Session) → SoundBy (wait_of old) s.table → s.rule < s.table.rule_count → unfit_by (wait_of old) s ≡ false
+  sound_fit s z r = rw ((wait_sound_iff old s.table).1 z, lt-leb s.table.rule_count s.rule r)
 
-  pub unfit-short : (s : Session) → unfit_by (wait_of old) s ≡ false → wait_of old (formula_of s) ≤ 4095
-  unfit-short s u = let f = fit-sound s u in watched_short old s.table s.rule f.0 f.1
+  pub unfit_short : (s : Session) → unfit_by (wait_of old) s ≡ false → wait_of old (formula_of s) ≤ 4095
+  unfit_short s u = let f = fit_sound s u in watched_short old s.table s.rule f.0 f.1
 
   -- a session is unfit where the delay of its rule is refused
   module _ (s : Session) {d : RuleDelay} (e : d ≡ rule_delay_by (wait_of old) s.table s.rule) where
-    delay-number : d.number ≡ delay_number_by (wait_of old) s.table s.rule
+    delay_number_lem : d.number ≡ delay_number_by (wait_of old) s.table s.rule
     unfolding rule_delay_by
-    delay-number = ap (λ (x : RuleDelay). x.number) e
+    delay_number_lem = ap (λ (x : RuleDelay). x.number) e
 
-    pub unfit-is : not (eqb d.number 0) ≡ unfit_by (wait_of old) s
-    unfit-is = rw delay-number (go (is_sound_by (wait_of old) s.table) (leb s.table.rule_count s.rule))
+    pub unfit_is : not (eqb d.number 0) ≡ unfit_by (wait_of old) s
+    unfit_is = rw delay_number_lem (go (is_sound_by (wait_of old) s.table) (leb s.table.rule_count s.rule))
       where
         go : (a b : Bool) → not (eqb (pick (not a) 25 (pick b 21 0)) 0) ≡ (not a || b)
         go true true = refl
@@ -80,18 +80,18 @@ module _ (old : Bool) where
 
     pub delay_is : unfit_by (wait_of old) s ≡ false → d.delay ≡ wait_of old (formula_of s)
     unfolding rule_delay_by
-    delay_is u = let t = fit-tests s u in ap (λ (x : RuleDelay). x.delay) e ∙ rw (t.0, t.1)
+    delay_is u = let t = fit_tests s u in ap (λ (x : RuleDelay). x.delay) e ∙ rw (t.0, t.1)
 
     pub fit_is : unfit_by (wait_of old) s ≡ false → {h x : List ℕ} → 4095 ≤ length h → 5280 ≤ length x → Fit s d.delay h x
     fit_is u p q =
-        let f = fit-sound s u in
-        record { sound = sound_now old s.table f.0; rule = f.1; short = omega (arith, delay_is u, unfit-short s u); history_fits = p; scratch_fits = q }
+        let f = fit_sound s u in
+        record { sound = sound_now old s.table f.0; rule = f.1; short = omega (arith, delay_is u, unfit_short s u); history_fits = p; scratch_fits = q }
 
   -- ---- a close that is refused, and one that is accepted, by its number
   module _ (s : Session) (h x o : List ℕ) {n : ℕ} (e : n ≡ close_number_by (wait_of old) s (length h) (length x) (length o)) where
-    pub closed-refused : (n ≡ 0 → ⊥) → refused n s h x o ≡ closing_by (wait_of old) s h x o
+    pub closed_refused : (n ≡ 0 → ⊥) → refused n s h x o ≡ closing_by (wait_of old) s h x o
     unfolding closing_by
-    closed-refused r = rw (← e, ne_eqb n 0 r)
+    closed_refused r = rw (← e, ne_eqb n 0 r)
 
     pub closed_accepted : {z : Effect} {d : ℕ} → n ≡ 0 → d ≡ wait_of old (formula_of s) → z ≡ closed d s h x o → z ≡ closing_by (wait_of old) s h x o
     unfolding closing_by
@@ -124,8 +124,8 @@ buffers h x o m e =
       ltb-false o m (or_right (ltb h 4095 || ltb x 5280) (ltb o m) e),
     )
 
-pub feed-fits : (limit : ℕ) (bad : Bool) (seen k h x o : ℕ) → first (feed_rows limit bad seen k h x o) ≡ 0 → FeedFits limit bad seen k h x o
-feed-fits limit bad seen k h x o e =
+pub feed_fits : (limit : ℕ) (bad : Bool) (seen k h x o : ℕ) → first (feed_rows limit bad seen k h x o) ≡ 0 → FeedFits limit bad seen k h x o
+feed_fits limit bad seen k h x o e =
     let no = no_row (feed_rows limit bad seen k h x o) refl e in
     let b = buffers h x o 16 (no 2) in
     record { fit = no 0; few = ltb-false 1024 k (no 1); history = b.0; scratch = b.1; out = b.2; count = ltb-false limit (seen + k) (no 3) }
@@ -145,8 +145,8 @@ close_fits bad h x o e =
 -- ---- the words of out
 module _ (p out mid : List ℕ) (m w : ℕ) (long : length p ≡ w) (room : w ≤ m) (fits : m ≤ length out) (e : mid ≡ p ++ drop w out) where
   -- the verdicts are there, and the words from w to m become zero
-  pub zeros-behind : (j : ℕ) {z : List ℕ} → j ≡ m - w → z ≡ replicate (length (mid_of w j mid)) 0 → put_mid w j mid z ≡ padded 0 m p ++ drop m out
-  zeros-behind j g q =
+  pub zeros_behind : (j : ℕ) {z : List ℕ} → j ≡ m - w → z ≡ replicate (length (mid_of w j mid)) 0 → put_mid w j mid z ≡ padded 0 m p ++ drop m out
+  zeros_behind j g q =
       let a : take w mid ≡ p = rw e (take_at p (drop w out) w long) in
       let b : drop w mid ≡ drop w out = rw e (drop_at p (drop w out) w long) in
       let l : length (mid_of w j mid) ≡ m - length p = rw b (simp (length-take, length-drop) (omega arith)) in
@@ -156,33 +156,33 @@ module _ (p out mid : List ℕ) (m w : ℕ) (long : length p ≡ w) (room : w �
       ∙ sym (append_assoc p (replicate (m - length p) 0) (drop m out))
 
 -- the evaluator runs on a sound table
-pub writes-ready : (t : Table) (place : ℕ) (trace : List ℕ) (count m : ℕ) (scratch out : List ℕ) → Writable t place trace count m scratch out
+pub writes_ready : (t : Table) (place : ℕ) (trace : List ℕ) (count m : ℕ) (scratch out : List ℕ) → Writable t place trace count m scratch out
     → ready t place trace count scratch out ≡ true
-writes-ready t place trace count m scratch out w =
-    ready-sound t place trace count scratch out w.sound.places w.sound w.node w.short w.ticks w.scratch_fits
+writes_ready t place trace count m scratch out w =
+    ready_sound t place trace count scratch out w.sound.places w.sound w.node w.short w.ticks w.scratch_fits
     (let r = w.room in let o = w.out_fits in omega arith)
 
-pub judged-words : {t : Table} {place : ℕ} {trace : List ℕ} {count m : ℕ} {scratch out : List ℕ} {b : Bool} {scratch' out' : List ℕ}
+pub judged_words : {t : Table} {place : ℕ} {trace : List ℕ} {count m : ℕ} {scratch out : List ℕ} {b : Bool} {scratch' out' : List ℕ}
     → Writable t place trace count m scratch out → Judged t place trace count scratch out b scratch' out'
     → (scratch' ≡ cleared scratch) × (out' ≡ with_verdicts (formula_at t.nodes place) trace count out)
-judged-words {t} {place} {trace} {count} {m} {scratch} {out} w j =
-    let r = writes-ready t place trace count m scratch out w in
+judged_words {t} {place} {trace} {count} {m} {scratch} {out} w j =
+    let r = writes_ready t place trace count m scratch out w in
     (rw r at j.clears, rw r at j.tells)
 
 -- ---- what history holds is short
-pub kept-short : {s : Session} {d n : ℕ} {h x : List ℕ} → Fit s d h x → n ≡ min s.seen d → n ≤ 4095
-kept-short f e = omega (arith, e, f.short)
+pub kept_short : {s : Session} {d n : ℕ} {h x : List ℕ} → Fit s d h x → n ≡ min s.seen d → n ≤ 4095
+kept_short f e = omega (arith, e, f.short)
 
 -- the rule is one of 8, and it watches one of 64 nodes
-pub fit-rule : {s : Session} {d : ℕ} {h x : List ℕ} → Fit s d h x → s.rule < 8
-fit-rule f = omega (arith, f.rule, f.sound.few_rules)
+pub fit_rule : {s : Session} {d : ℕ} {h x : List ℕ} → Fit s d h x → s.rule < 8
+fit_rule f = omega (arith, f.rule, f.sound.few_rules)
 
-pub fit-node : {s : Session} {d : ℕ} {h x : List ℕ} → Fit s d h x → (rule_at s.table s.rule).watched < 64
-fit-node {s} f = omega (arith, (f.sound.rule s.rule f.rule).watched, f.sound.few_nodes)
+pub fit_node : {s : Session} {d : ℕ} {h x : List ℕ} → Fit s d h x → (rule_at s.table s.rule).watched < 64
+fit_node {s} f = omega (arith, (f.sound.rule s.rule f.rule).watched, f.sound.few_nodes)
 
 -- the first n of a list, as a part from 0 on is lent
-pub lent-part : (n : ℕ) (xs : List ℕ) → take (n - 0) xs ≡ take n xs
-lent-part n xs = let e : n - 0 ≡ n = omega arith in ap (λ (i : ℕ). take i xs) e
+pub lent_part : (n : ℕ) (xs : List ℕ) → take (n - 0) xs ≡ take n xs
+lent_part n xs = let e : n - 0 ≡ n = omega arith in ap (λ (i : ℕ). take i xs) e
 
 -- ---- an accepted feed: hh states are kept, the block follows, and `left` are kept afterwards
 module _ {s : Session} {d : ℕ} {block h x o : List ℕ} (f : Feedable s d block h x o) where
@@ -202,8 +202,8 @@ module _ {s : Session} {d : ℕ} {block h x o : List ℕ} (f : Feedable s d bloc
         let e = f.fit.short in
         length-append (take hh h) block ∙ ap (λ (i : ℕ). i + k) (length-take hh h ∙ omega arith)
 
-    pub feed-writes : {older : List ℕ} → older ≡ take hh h → Writable s.table place (older ++ block) (a - b) 16 x o
-    feed-writes e =
+    pub feed_writes : {older : List ℕ} → older ≡ take hh h → Writable s.table place (older ++ block) (a - b) 16 x o
+    feed_writes e =
         let n = f.few in
         let g = f.fit.short in
         rw e
@@ -231,8 +231,8 @@ module _ {s : Session} {d : ℕ} {h x o : List ℕ} (f : Closable s d h x o) whe
   spot = (rule_at s.table s.rule).watched
 
   module _ {count : ℕ} (p : count ≡ min s.seen d) where
-    pub close-writes : {older none : List ℕ} → older ≡ take count h → none ≡ [] → Writable s.table spot (older ++ none) count 64 x o
-    close-writes e z =
+    pub close_writes : {older none : List ℕ} → older ≡ take count h → none ≡ [] → Writable s.table spot (older ++ none) count 64 x o
+    close_writes e z =
         let g = f.fit.short in
         let w = f.fit.history_fits in
         let l : length (take count h ++ []) ≡ count = ap length (append-nil (take count h)) ∙ length-take count h ∙ omega arith in

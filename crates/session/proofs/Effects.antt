@@ -21,7 +21,7 @@ use Rattle.table.specs.Sound.{SoundBy, delay_number_by}
 use Rattle.table.proofs.Soundness.{rule_there}
 use Rattle.session.specs.declared.Session.{Session}
 use Rattle.session.specs.Session.{Effect, formula_of, refused, unfit_by, verdict_words, feed_number_by, fed, feeding_by, close_number_by, closed, closing_by, opening_by}
-use Rattle.session.proofs.Answers.{sound-fit}
+use Rattle.session.proofs.Answers.{sound_fit}
 
 -- a choice between an accepted effect, whose number is 0, and a refused one
 module _ (n : ℕ) (yes : Effect) (zero : yes.answer.number ≡ 0) (s : Session) (h x o : List ℕ) where
@@ -99,4 +99,4 @@ module _ (old : Bool) (t : Table) (r : ℕ) (e : (opening_by (wait_of old) t r).
 
   -- so it is fit
   pub opened_fit : unfit_by (wait_of old) (opening_by (wait_of old) t r).session ≡ false
-  opened_fit = rw opened_is (sound-fit old (record { table = t; rule = r; seen = 0 }) opened_sound opened_rule)
+  opened_fit = rw opened_is (sound_fit old (record { table = t; rule = r; seen = 0 }) opened_sound opened_rule)

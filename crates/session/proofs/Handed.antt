@@ -9,7 +9,7 @@ use Rattle.session.specs.declared.Session.{Session}
 use Rattle.session.specs.declared.Step.{Step}
 use Rattle.session.specs.Session.{Effect, StepEffect, step_effect, unfit, with_seen, feeding}
 use Rattle.session.proofs.Effects.{feed_accepted, feed_refused_lem}
-use Rattle.session.proofs.Answers.{feed-fits}
+use Rattle.session.proofs.Answers.{feed_fits}
 
 module _ (s : Session) (block h x o : List ℕ) {k : Step} {h' x' o' : List ℕ}
     (e : ◌≡◌ {A = StepEffect} (record { step = k; history = h'; scratch = x'; out = o' }) (step_effect (feeding s block h x o))) where
@@ -39,4 +39,4 @@ module _ (s : Session) (block h x o : List ℕ) {k : Step} {h' x' o' : List ℕ}
 
   pub step_fits : k.number ≡ 0 → s.seen + length block ≤ max_seen
   step_fits r =
-      (feed-fits max_seen (unfit s) s.seen (length block) (length h) (length x) (length o) (feed_accepted delay s h x o max_seen block (sym step_number ∙ r)).1).count
+      (feed_fits max_seen (unfit s) s.seen (length block) (length h) (length x) (length o) (feed_accepted delay s h x o max_seen block (sym step_number ∙ r)).1).count

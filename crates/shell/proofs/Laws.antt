@@ -19,9 +19,9 @@ use Rattle.session.specs.declared.Step.{Step}
 use Rattle.session.specs.Session.{Effect, StepEffect, step_effect, unfit_by, unfit, feed_number_by, feeding_by, feeding, close_number_by, closing_by}
 use Rattle.registers.specs.declared.Outcome.{Outcome}
 use Rattle.registers.specs.Registers.{after_call}
-use Rattle.session.proofs.Answers.{feed-fits, close_fits, unfit-short}
+use Rattle.session.proofs.Answers.{feed_fits, close_fits, unfit_short}
 use Rattle.session.proofs.Handed.{step_refused, step_accepted}
-use Rattle.shell.specs.Answers.{leaves, sessionAnswer, stepAnswer, counted, Called}
+use Rattle.shell.specs.Answers.{leaves, session_answer, step_answer, counted, Called}
 
 -- ---- what a call leaves in a buffer
 pub renews : {number : ℕ} {new b : List ℕ} (old : List ℕ) → number ≡ 0 → b ≡ new → b ≡ leaves number new old
@@ -40,7 +40,7 @@ unfolding feeding_by
 feed_count_lem s block h x o =
     let n : ℕ = feed_number_by delay max_seen s (length block) (length h) (length x) (length o) in
     ⊎_elim
-    (λ (b : eqb n 0 ≡ true). rw b (let f = feed-fits max_seen (unfit s) s.seen (length block) (length h) (length x) (length o) (eqb-true n 0 b) in omega (arith, f.few)))
+    (λ (b : eqb n 0 ≡ true). rw b (let f = feed_fits max_seen (unfit s) s.seen (length block) (length h) (length x) (length o) (eqb-true n 0 b) in omega (arith, f.few)))
     (λ (b : eqb n 0 ≡ false). rw b (omega arith)) (true_or_false (eqb n 0))
 
 pub close_count : (old : Bool) (s : Session) (h x o : List ℕ) → (closing_by (wait_of old) s h x o).answer.count ≤ 4095
@@ -49,21 +49,21 @@ close_count old s h x o =
     let n : ℕ = close_number_by (wait_of old) s (length h) (length x) (length o) in
     ⊎_elim
     (λ (b : eqb n 0 ≡ true).
-    rw b (let f = close_fits (unfit_by (wait_of old) s) (length h) (length x) (length o) (eqb-true n 0 b) in omega (arith, unfit-short old s f.fit)))
+    rw b (let f = close_fits (unfit_by (wait_of old) s) (length h) (length x) (length o) (eqb-true n 0 b) in omega (arith, unfit_short old s f.fit)))
     (λ (b : eqb n 0 ≡ false). rw b (omega arith)) (true_or_false (eqb n 0))
 
 -- ---- calls: the session is what its bytes hold
 pub called_by : (run : Session → Effect) {s z : Session} {r : Answer} {n : ℕ} {b b' h x o : List ℕ}
     → ◌≡◌ {A = Effect} (record { answer = r; history = h; scratch = x; out = o }) (run s)
-    → s ≡ z → (n ≡ sessionAnswer r) × (b' ≡ counted renewed r b) → Called renewed (run z) b n b' h x o
+    → s ≡ z → (n ≡ session_answer r) × (b' ≡ counted renewed r b) → Called renewed (run z) b n b' h x o
 called_by run {b = b} p e q =
     let k = p ∙ ap run e in
     record {
-      told = q.0 ∙ ap (λ (y : Effect). sessionAnswer y.answer) k;
+      told = q.0 ∙ ap (λ (y : Effect). session_answer y.answer) k;
       session = q.1 ∙ ap (λ (y : Effect). counted renewed y.answer b) k;
-      history-is = ap (λ (y : Effect). y.history) k;
-      scratch-is = ap (λ (y : Effect). y.scratch) k;
-      out-is = ap (λ (y : Effect). y.out) k;
+      history_is = ap (λ (y : Effect). y.history) k;
+      scratch_is = ap (λ (y : Effect). y.scratch) k;
+      out_is = ap (λ (y : Effect). y.out) k;
     }
 
 -- a feed without the session that it hands back
@@ -72,7 +72,7 @@ module _ (s : Session) (block h x o : List ℕ) {k : Step} {h' x' o' : List ℕ}
   pub step_count : k.count ≤ 1024
   step_count = rw (ap (λ (y : StepEffect). y.step.count) e) (feed_count_lem s block h x o)
 
-  pub stepped_by : {z : Session} (b : List ℕ) {n : ℕ} {b' : List ℕ} → s ≡ z → (n ≡ stepAnswer k) × (b' ≡ leaves k.number (renewed (s.seen + length block) b) b)
+  pub stepped_by : {z : Session} (b : List ℕ) {n : ℕ} {b' : List ℕ} → s ≡ z → (n ≡ step_answer k) × (b' ≡ leaves k.number (renewed (s.seen + length block) b) b)
       → Called renewed (feeding z block h x o) b n b' h' x' o'
   stepped_by b p q =
       ⊎_elim (λ (t : eqb k.number 0 ≡ true). called_by (λ (y : Session). feeding y block h x o) (step_accepted s block h x o e (eqb-true k.number 0 t) refl) p q)
@@ -83,5 +83,5 @@ module _ (s : Session) (block h x o : List ℕ) {k : Step} {h' x' o' : List ℕ}
 -- the same with the registers g beside it
 pub noted_by : (run : Session → Effect) (outcome : Session → Outcome) (g : List ℕ) {s z : Session} {r : Answer} {n : ℕ} {g' b b' h x o : List ℕ}
     → ◌≡◌ {A = Effect} (record { answer = r; history = h; scratch = x; out = o }) (run s) × (g' ≡ after_call (outcome s) g)
-    → s ≡ z → (n ≡ sessionAnswer r) × (b' ≡ counted renewed r b) → Called renewed (run z) b n b' h x o × (g' ≡ after_call (outcome z) g)
+    → s ≡ z → (n ≡ session_answer r) × (b' ≡ counted renewed r b) → Called renewed (run z) b n b' h x o × (g' ≡ after_call (outcome z) g)
 noted_by run outcome g p e q = (called_by run p.0 e q, p.1 ∙ ap (λ (y : Session). after_call (outcome y) g) e)

@@ -25,62 +25,62 @@ abbrev pub leaves : ℕ → List ℕ → List ℕ → List ℕ
 leaves number new old = pick (eqb number 0) new old
 
 -- the largest place or line that an answer holds, 2^56 - 1: no machine has a text so long
-abbrev pub maxPlace : ℕ
-maxPlace = 72057594037927935
+abbrev pub max_place : ℕ
+max_place = 72057594037927935
 
 -- the number of a refusal and, above it, its place or line
-abbrev pub textAnswer : Typed → ℕ
-textAnswer x = x.number + 256 * min x.place maxPlace
+abbrev pub text_answer : Typed → ℕ
+text_answer x = x.number + 256 * min x.place max_place
 
 -- the number of a refusal and, above it, the length of a book in bytes
-abbrev pub writeAnswer : Writing → ℕ
-writeAnswer w = w.number + 65536 * w.length
+abbrev pub write_answer : Writing → ℕ
+write_answer w = w.number + 65536 * w.length
 
 -- the number of a refusal and, above it, the delay
-abbrev pub delayAnswer : RuleDelay → ℕ
-delayAnswer r = r.number + 65536 * r.delay
+abbrev pub delay_answer : RuleDelay → ℕ
+delay_answer r = r.number + 65536 * r.delay
 
 -- the number of a refusal and, above it, the count of parts
-abbrev pub splitAnswer : Splitting → ℕ
-splitAnswer r = r.number + 256 * r.count
+abbrev pub split_answer : Splitting → ℕ
+split_answer r = r.number + 256 * r.count
 
 -- the number of a refusal and, above it, the exponent, the count of moves and the leftover
-abbrev pub movesAnswer : Doubling → ℕ
-movesAnswer d = d.number + 256 * d.exponent + 65536 * d.count + 4294967296 * d.leftover
+abbrev pub moves_answer : Doubling → ℕ
+moves_answer d = d.number + 256 * d.exponent + 65536 * d.count + 4294967296 * d.leftover
 
 -- the number of a refusal and, above it, the count of verdicts
-abbrev pub sessionAnswer : Answer → ℕ
-sessionAnswer r = r.number + 4294967296 * r.count
+abbrev pub session_answer : Answer → ℕ
+session_answer r = r.number + 4294967296 * r.count
 
-abbrev pub stepAnswer : Step → ℕ
-stepAnswer k = k.number + 4294967296 * k.count
+abbrev pub step_answer : Step → ℕ
+step_answer k = k.number + 4294967296 * k.count
 
 -- the number of a refusal and, above it, the byte at a place
-abbrev pub registerAnswer : Reading → ℕ
-registerAnswer r = r.number + 256 * r.value
+abbrev pub register_answer : Reading → ℕ
+register_answer r = r.number + 256 * r.value
 
 -- 0 for no, 1 for yes, 2 for open
-abbrev pub valueNumber : Value → ℕ
-valueNumber no = 0
-valueNumber yes = 1
-valueNumber undecided = 2
+abbrev pub value_number : Value → ℕ
+value_number no = 0
+value_number yes = 1
+value_number undecided = 2
 
 -- the number of a refusal or, above it, the value
-abbrev pub earlyAnswer : Told → ℕ
-earlyAnswer (refused number) = number
-earlyAnswer (value v) = 256 * valueNumber v
+abbrev pub early_answer : Told → ℕ
+early_answer (refused number) = number
+early_answer (value v) = 256 * value_number v
 
 -- the number of a refusal or, above it, whether there is a range
-abbrev pub reachAnswer : Reached → ℕ
-reachAnswer (not-reached number) = number
-reachAnswer empty = 0
-reachAnswer (ticks first last) = 256
+abbrev pub reach_answer : Reached → ℕ
+reach_answer (not-reached number) = number
+reach_answer empty = 0
+reach_answer (ticks first last) = 256
 
 -- the two words after a call: the first and the last tick where there is a range, and otherwise as they were
-abbrev pub rangeAfter : Reached → List ℕ → List ℕ
-rangeAfter (not-reached number) words = words
-rangeAfter empty words = words
-rangeAfter (ticks first last) words = first ∷ last ∷ []
+abbrev pub range_after : Reached → List ℕ → List ℕ
+range_after (not-reached number) words = words
+range_after empty words = words
+range_after (ticks first last) words = first ∷ last ∷ []
 
 -- the bytes of a table after the simplifier: its answer is free but for what is promised of it, by a measure of how many states a verdict waits for
 pub record SimplifiesBy (wait : Formula → ℕ) (before : List ℕ) (number : ℕ) (after : List ℕ) : Type 0 where
@@ -101,8 +101,8 @@ abbrev pub counted : (ℕ → List ℕ → List ℕ) → Answer → List ℕ →
 counted renew r b = leaves r.number (renew r.session.seen b) b
 
 pub record Called (renew : ℕ → List ℕ → List ℕ) (e : Effect) (bytes : List ℕ) (r : ℕ) (bytes' history scratch out : List ℕ) : Type 0 where
-  pub told : r ≡ sessionAnswer e.answer
+  pub told : r ≡ session_answer e.answer
   pub session : bytes' ≡ counted renew e.answer bytes
-  pub history-is : history ≡ e.history
-  pub scratch-is : scratch ≡ e.scratch
-  pub out-is : out ≡ e.out
+  pub history_is : history ≡ e.history
+  pub scratch_is : scratch ≡ e.scratch
+  pub out_is : out ≡ e.out

@@ -15,7 +15,7 @@ ghost use Rattle.registers.specs.Registers.{after_call};
 ghost use Rattle.noted.specs.Noted.{feed_outcome, close_outcome};
 ghost use Rattle.flat.specs.Flat.{table_from, written};
 ghost use Rattle.flat.specs.Sessions.{session_from, session_written, renewed};
-ghost use Rattle.shell.specs.Answers.{leaves, textAnswer, sessionAnswer, stepAnswer, earlyAnswer, reachAnswer, rangeAfter, counted, Called};
+ghost use Rattle.shell.specs.Answers.{leaves, text_answer, session_answer, step_answer, early_answer, reach_answer, range_after, counted, Called};
 ghost use Rattle.shell.specs.Scheduler.{turn_code, leave_in, turn_in, close_in};
 
 use book::Reading;
@@ -65,7 +65,7 @@ fn put_count(r: Answer, b: &mut [u8; SESSION_BYTES])
 
 // The first and the last tick, where there is a range.
 pub fn put_range(r: Range, range: &mut [u64; 2])
-    ensures { range.new ≡ rangeAfter (reached_by r) range.old }
+    ensures { range.new ≡ range_after (reached_by r) range.old }
 {
     match r {
         Range::Refused(_) => {}
@@ -89,7 +89,7 @@ pub fn book_code(r: Reading) -> u32
 const MAX_PLACE: usize = 72057594037927935;
 
 pub fn text_code(r: Typed) -> u64
-    ensures { result ≡ textAnswer r }
+    ensures { result ≡ text_answer r }
 {
     if r.place > MAX_PLACE {
         return r.number as u64 + 256 * (MAX_PLACE as u64);
@@ -98,7 +98,7 @@ pub fn text_code(r: Typed) -> u64
 }
 
 pub fn early_code(d: Decision) -> u32
-    ensures { result ≡ earlyAnswer (told_by d) }
+    ensures { result ≡ early_answer (told_by d) }
 {
     match d {
         Decision::Refused(number) => number as u32,
@@ -109,7 +109,7 @@ pub fn early_code(d: Decision) -> u32
 }
 
 pub fn range_code(r: Range) -> u32
-    ensures { result ≡ reachAnswer (reached_by r) }
+    ensures { result ≡ reach_answer (reached_by r) }
 {
     match r {
         Range::Refused(number) => number as u32,
@@ -123,7 +123,7 @@ pub fn range_code(r: Range) -> u32
 // The count of states seen, with the answer as one number.
 fn put_answer(r: Answer, b: &mut [u8; SESSION_BYTES]) -> u64
     requires { r.count ≤ max_delay }
-    ensures { (result ≡ sessionAnswer r) × (b.new ≡ counted renewed r b.old) }
+    ensures { (result ≡ session_answer r) × (b.new ≡ counted renewed r b.old) }
 {
     put_count(r, b);
     r.number as u64 + 4294967296 * (r.count as u64)
@@ -132,7 +132,7 @@ fn put_answer(r: Answer, b: &mut [u8; SESSION_BYTES]) -> u64
 // The same for n states more, without the session that a feed hands back: it would be copied at each feed.
 fn put_step(k: Step, seen: u64, n: usize, b: &mut [u8; SESSION_BYTES]) -> u64
     requires { (k.count ≤ max_delay) × (k.number ≡ 0 → seen + n ≤ max_seen) }
-    ensures { (result ≡ stepAnswer k) × (b.new ≡ leaves k.number (renewed (seen + n) b.old) b.old) }
+    ensures { (result ≡ step_answer k) × (b.new ≡ leaves k.number (renewed (seen + n) b.old) b.old) }
 {
     let answer = k.number as u64 + 4294967296 * (k.count as u64);
     if k.number != 0 {

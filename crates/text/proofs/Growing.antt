@@ -17,7 +17,7 @@ use Rattle.builder.specs.declared.Added.{Added}
 use Rattle.table.specs.Nodes.{cap, delay_over}
 use Rattle.builder.specs.Adding.{node_rows_by, add_node_rows, rule_rows_by, with_node, with_rule, adding_node, adding_rule}
 use Rattle.builder.specs.Built.{Delays}
-use Rattle.builder.proofs.Answers.{refused_is, accepted_is, node-place, rule-place}
+use Rattle.builder.proofs.Answers.{refused_is, accepted_is, node_place, rule_place_lem}
 use Rattle.builder.proofs.Over.{number_over, accepted_delays}
 use Rattle.grammar.specs.declared.Made.{Made}
 use Rattle.text.specs.Typing.{node_of, added, grown, watching, ruled, line_added, made_at, mades_of}
@@ -58,7 +58,7 @@ module _ {t : Table} {c : List ℕ} {count base : ℕ} {u : Table} {ds : List �
   grown_bad z = sym (one_more (added f u) (refused_is u (with_node u n) number_is z) ∙ (rw (ne_eqb f 0 z)))
 
   pub node_room : f ≡ 0 → u.node_count < 64
-  node_room z = node-place u.node_count d n e z
+  node_room z = node_place u.node_count d n e z
 
   pub grown_more : f ≡ 0 → Grown t c count base (with_node u n) (set ds u.node_count d) (k + 1)
   unfolding adding_node
@@ -94,7 +94,7 @@ module _ {t : Table} {c : List ℕ} {count : ℕ} {u : Table} {ds : List ℕ} {k
   rule_bad z = refused_is u (with_rule u r) e z ∙ then_is
 
   pub rule_room : f ≡ 0 → u.rule_count < 8
-  rule_room z = rule-place u r e z
+  rule_room z = rule_place_lem u r e z
 
   pub line_done : f ≡ 0 → added 0 (with_rule u r) ≡ line_added t name (mades_of c count)
   unfolding adding_rule

@@ -32,9 +32,9 @@ use Rattle.verdict.specs.Verdict.{Answered, Judged, cleared, enough, fits_to, wh
 
 -- ---- out and scratch
 -- the first words of packed verdicts, cut
-cut-is : (m count n : ℕ) (f : ℕ → Bool) (c : List ℕ) → c ≡ take m (packed n f) → count ≤ n → m ≡ words count → pack m (below count (bit_at c)) ≡ packed count f
+cut_is : (m count n : ℕ) (f : ℕ → Bool) (c : List ℕ) → c ≡ take m (packed n f) → count ≤ n → m ≡ words count → pack m (below count (bit_at c)) ≡ packed count f
 unfolding packed
-cut-is m count n f c e h g =
+cut_is m count n f c e h g =
     rw g
     (pack_ext (words count) (below count (bit_at c)) (below count f) λ t l.
     ⊎_elim
@@ -67,12 +67,12 @@ told_is {ns} {trace = trace} {ys = ys} {mid = mid} {z = z} out k count j g c l o
     let lh : length (take m mid) ≡ m = ap length held ∙ length-take m (packed n f) ∙ omega (arith, length_packed n f) in
     let bits : z ≡ packed count f =
     v.is ∙ ap (λ (i : ℕ). pack (length (take i mid)) (below count (bit_at (take i mid)))) g ∙ ap (λ (i : ℕ). pack i (below count (bit_at (take m mid)))) lh
-    ∙ cut-is m count n f (take m mid) held c refl in
+    ∙ cut_is m count n f (take m mid) held c refl in
     ap₂ (λ (a b : List ℕ). a ++ b) bits (ap (λ (i : ℕ). drop i mid) g ∙ rest)
 
-pub cleared-is : (xs ys : List ℕ) {zs : List ℕ} → 5280 ≤ length ys → zs ≡ replicate (length (mid_of 0 5280 ys)) 0 → drop 5280 ys ≡ drop 5280 xs
+pub cleared_is : (xs ys : List ℕ) {zs : List ℕ} → 5280 ≤ length ys → zs ≡ replicate (length (mid_of 0 5280 ys)) 0 → drop 5280 ys ≡ drop 5280 xs
     → zs ++ drop 5280 ys ≡ cleared xs
-cleared-is xs ys h e d = ap₂ (λ (a b : List ℕ). a ++ b) (e ∙ ap (λ (n : ℕ). replicate n 0) (length_register 0 5280 ys (omega arith))) d
+cleared_is xs ys h e d = ap₂ (λ (a b : List ℕ). a ++ b) (e ∙ ap (λ (n : ℕ). replicate n 0) (length_register 0 5280 ys (omega arith))) d
 
 -- ---- when a call is ready
 module _ (t : Table) (k : ℕ) where
@@ -89,19 +89,19 @@ module _ (states count scratch out : ℕ) where
   pub too_few : states ≤ 5120 → states < count → false ≡ enough states count scratch out
   too_few h k = rw (le-leb states 5120 h, lt-leb count states k)
 
-  pub few-enough : states ≤ 5120 → count ≤ states → (leb 5280 scratch && leb (words count) out) ≡ enough states count scratch out
-  few-enough h k = rw (le-leb states 5120 h, le-leb count states k)
+  pub few_enough : states ≤ 5120 → count ≤ states → (leb 5280 scratch && leb (words count) out) ≡ enough states count scratch out
+  few_enough h k = rw (le-leb states 5120 h, le-leb count states k)
 
-pub ready-is : (t : Table) (k : ℕ) (older newer : List ℕ) (count : ℕ) (scratch out : List ℕ) {f r : Bool} → f ≡ fits_to t k
+pub ready_is : (t : Table) (k : ℕ) (older newer : List ℕ) (count : ℕ) (scratch out : List ℕ) {f r : Bool} → f ≡ fits_to t k
     → r ≡ enough (length older + length newer) count (length scratch) (length out) → (f && r) ≡ ready t k (older ++ newer) count scratch out
 unfolding ready
-ready-is t k older newer count scratch out p q =
+ready_is t k older newer count scratch out p q =
     ap₂ ◌&&◌ p (q ∙ ap (λ (n : ℕ). enough n count (length scratch) (length out)) (sym (length-append older newer)))
 
 module _ (t : Table) (k : ℕ) (trace : List ℕ) (count : ℕ) (scratch out : List ℕ) (places : length t.nodes ≡ 64) where
-  pub ready-out : ready t k trace count scratch out ≡ true → Judgeable t.nodes k trace count scratch out
+  pub ready_out : ready t k trace count scratch out ≡ true → Judgeable t.nodes k trace count scratch out
   unfolding ready
-  ready-out e =
+  ready_out e =
       let place : k < 64 = ltb-true k 64 (search (true_left, true_right) depth 12) in
       record {
         place = place;
@@ -115,10 +115,10 @@ module _ (t : Table) (k : ℕ) (trace : List ℕ) (count : ℕ) (scratch out : L
       }
 
   -- a sound table fits
-  pub ready-sound : Sound t → k < t.node_count → length trace ≤ 5120 → count ≤ length trace → 5280 ≤ length scratch → words count ≤ length out
+  pub ready_sound : Sound t → k < t.node_count → length trace ≤ 5120 → count ≤ length trace → 5280 ≤ length scratch → words count ≤ length out
       → ready t k trace count scratch out ≡ true
   unfolding ready
-  ready-sound s h a d b c =
+  ready_sound s h a d b c =
       let few = s.few_nodes in
       (lt-ltb k 64 (omega arith) also (every_iff fits no_node (take (k + 1) t.nodes)).1 λ i l.
       let j : i < k + 1 = omega (arith, length-take (k + 1) t.nodes) in
@@ -127,8 +127,8 @@ module _ (t : Table) (k : ℕ) (trace : List ℕ) (count : ℕ) (scratch out : L
 
 -- ---- the answers of `judge`
 module _ {t : Table} {k : ℕ} {trace : List ℕ} {count : ℕ} {scratch out : List ℕ} {b : Bool} (e : b ≡ ready t k trace count scratch out) where
-  pub judged-not : b ≡ false → Judged t k trace count scratch out false scratch out
-  judged-not f = let r : ready t k trace count scratch out ≡ false = sym e ∙ f in record { answers = sym r; tells = rw r; clears = rw r }
+  pub judged_not : b ≡ false → Judged t k trace count scratch out false scratch out
+  judged_not f = let r : ready t k trace count scratch out ≡ false = sym e ∙ f in record { answers = sym r; tells = rw r; clears = rw r }
 
   pub judged : {scratch' out' : List ℕ} → b ≡ true → out' ≡ with_verdicts (formula_at t.nodes k) trace count out → scratch' ≡ cleared scratch
       → Judged t k trace count scratch out true scratch' out'
@@ -139,18 +139,18 @@ module _ {t : Table} {k : ℕ} {trace : List ℕ} {count : ℕ} {scratch out : L
 pub record WholeFits (t : Table) (rule states scratch out : ℕ) : Type 0 where
   pub sound : Sound t
   pub rule_there : rule < t.rule_count
-  pub few-states : states ≤ 5120
+  pub few_states : states ≤ 5120
   pub scratch_fits : 5280 ≤ scratch
   pub out_fits : words states ≤ out
 
-pub whole-fits : (t : Table) (rule states scratch out : ℕ) → whole_number t rule states scratch out ≡ 0 → WholeFits t rule states scratch out
+pub whole_fits : (t : Table) (rule states scratch out : ℕ) → whole_number t rule states scratch out ≡ 0 → WholeFits t rule states scratch out
 unfolding whole_number
-whole-fits t rule states scratch out e =
+whole_fits t rule states scratch out e =
     let no = no_row (whole_rows (is_sound t) t.rule_count rule states scratch out) refl e in
     record {
       sound = (sound_iff t).0 (not-false (is_sound t) (no 0));
       rule_there = leb-false t.rule_count rule (no 1);
-      few-states = ltb-false 5120 states (no 2);
+      few_states = ltb-false 5120 states (no 2);
       scratch_fits = ltb-false scratch 5280 (or_left (ltb scratch 5280) (ltb out (words states)) (no 3));
       out_fits = ltb-false out (words states) (or_right (ltb scratch 5280) (ltb out (words states)) (no 3));
     }

@@ -15,7 +15,7 @@ use Rattle.lists.specs.Bits.{bit_at}
 use Rattle.session.specs.declared.Answer.{Answer}
 use Rattle.mltl.specs.Mltl.{delay}
 use Rattle.session.specs.Session.{Effect, opening_by, opening, fed, feeding, closing, delay_of, unfit}
-use Rattle.session.proofs.Answers.{feed-fits}
+use Rattle.session.proofs.Answers.{feed_fits}
 use Rattle.session.proofs.Effects.{feed_accepted, close_accepted as close_is}
 use Rattle.table.specs.declared.Table.{Table}
 use Rattle.table.specs.declared.Rule.{Rule}
@@ -134,7 +134,7 @@ module _ (p : Progress) (at : ℕ) (h block x o : List ℕ) (a : Answer) (h' x' 
   seen_fits : a.number ≡ 0 → p.session.seen + length (take p.count block) ≤ max_seen
   seen_fits n =
       let q = (feed_accepted delay p.session h x o max_seen (take p.count block) (ap (λ (y : Effect). y.answer.number) (sym is) ∙ n)).1 in
-      (feed-fits max_seen (unfit p.session) p.session.seen (length (take p.count block)) (length h) (length x) (length o) q).count
+      (feed_fits max_seen (unfit p.session) p.session.seen (length (take p.count block)) (length h) (length x) (length o) q).count
 
   -- no tick passes the limit of the count
   pub count_few : a.number ≡ 0 → p.tick + a.count ≤ max_seen

@@ -2,7 +2,7 @@
 use Prim.Native.Nat.{◌<◌}
 use native.Mathlib.Omega.{arith}
 use Rattle.builder.specs.Adding.{with_rule, adding_rule}
-use Rattle.builder.proofs.Answers.{refused_is, accepted_is, rule-place}
+use Rattle.builder.proofs.Answers.{refused_is, accepted_is, rule_place_lem}
 use borrow.Author.Rules.{rules}
 use Rattle.builder.proofs.add_rule.Goals as goal
 
@@ -10,7 +10,7 @@ use Rattle.builder.proofs.add_rule.Goals as goal
 below : (c : goal.Else-number-ne0) → c.args.t.rule_count < 8
 below c =
     let a = c.args in
-    rule-place a.t a.r c.rule_number-number.ensures c.if-number-ne0.false
+    rule_place_lem a.t a.r c.rule_number-number.ensures c.if-number-ne0.false
 
 pub returns-then-number-ne0 : goal.returns-then-number-ne0
 unfolding adding_rule

@@ -6,7 +6,7 @@ use mathlib.Core.Bool.{Bool}
 use lib.ListN.{length}
 use Rattle.lists.specs.Choice.{first}
 use Rattle.early.specs.Early.{early_number, early_number_for, early_rows}
-use Rattle.early.proofs.Answers.{accepts, answerable, early-fits, EarlyFits, refuses}
+use Rattle.early.proofs.Answers.{accepts, answerable, early_fits, EarlyFits, refuses}
 use mathlib.Core.List.{List}
 use Prim.Native.Nat.{ℕ}
 use Rattle.table.specs.declared.Table.{Table}
@@ -21,7 +21,7 @@ number t r states tick x e s = e ∙ ap (λ (b : Bool). first (early_rows b t.ru
 -- no row fits
 fit : (t : Table) (r : ℕ) (states : List ℕ) (tick : ℕ) (x : List ℕ) {n : ℕ} {b : Bool}
     → n ≡ first (early_rows b t.rule_count r (length states) tick (length x)) → b ≡ is_sound t → n ≡ 0 → EarlyFits t r (length states) tick (length x)
-fit t r states tick x e s z = early-fits t r (length states) tick (length x) (sym (number t r states tick x e s) ∙ z)
+fit t r states tick x e s z = early_fits t r (length states) tick (length x) (sym (number t r states tick x e s) ∙ z)
 
 few : {t : Table} {r k tick x : ℕ} → EarlyFits t r k tick x → r < 8
 few f = omega (arith, f.sound.few_rules, f.rule_there)

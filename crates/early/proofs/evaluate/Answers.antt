@@ -7,7 +7,7 @@ use Rattle.needed.specs.Marks.{Needs}
 use Rattle.needed.proofs.Marked.{needs_by}
 use Rattle.layout.proofs.Runs.{runnable}
 use Rattle.early.specs.Early.{value}
-use Rattle.early.proofs.Answers.{cleared-is, known_by}
+use Rattle.early.proofs.Answers.{cleared_is, known_by}
 use Rattle.early.proofs.evaluate.Goals.{After-needed_for-marks}
 use Rattle.early.proofs.evaluate.Goals as goal
 
@@ -24,5 +24,5 @@ returns c =
     let long = c.run.auto.s in (
       c.decision_of.ensures
           ∙ ap value (known_by a.k a.tick c.run.ensures (marks (goal.at.returns c).After-needed_for-marks).top h.place h.short h.seen (omega (arith, h.enough, long)) c.bit_at-yes.ensures c.bit_at-no.ensures),
-      cleared-is a.scratch.now c.run.new.s (omega (arith, h.enough, long)) c.clear.ensures c.run.ensures.rest,
+      cleared_is a.scratch.now c.run.new.s (omega (arith, h.enough, long)) c.clear.ensures c.run.ensures.rest,
     )

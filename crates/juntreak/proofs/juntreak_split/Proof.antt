@@ -5,7 +5,7 @@ use mathlib.Core.Path.{ap, ◌∙◌}
 use borrow.Author.Rules.{rules}
 use Rattle.interval.specs.declared.Splitting.{Splitting}
 use Rattle.interval.proofs.Laws.{splitting_count}
-use Rattle.shell.specs.Answers.{leaves, splitAnswer}
+use Rattle.shell.specs.Answers.{leaves, split_answer}
 use Rattle.juntreak.proofs.juntreak_split.Statement.{statement}
 use Rattle.juntreak.proofs.juntreak_split.Tie as tie
 
@@ -17,7 +17,7 @@ returns c =
     let p = c.before.before in
     let s = p.before.before.before in
     let b = s.before.args.parts.now in
-    (ap splitAnswer s.split.ensures, p.put-parts.ensures ∙ ap (λ (x : Splitting). leaves x.number x.parts b) s.split.ensures)
+    (ap split_answer s.split.ensures, p.put-parts.ensures ∙ ap (λ (x : Splitting). leaves x.number x.parts b) s.split.ensures)
 
 pub juntreak-split-spec : {M : Type 1} → statement M
 juntreak-split-spec =

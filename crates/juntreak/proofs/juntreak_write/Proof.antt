@@ -8,7 +8,7 @@ use Rattle.table.specs.declared.Table.{Table}
 use Rattle.book.specs.declared.Writing.{Writing}
 use Rattle.book.specs.Writing.{writing, written_into}
 use Rattle.book.proofs.Back.{relied}
-use Rattle.shell.specs.Answers.{writeAnswer}
+use Rattle.shell.specs.Answers.{write_answer}
 use Rattle.juntreak.proofs.juntreak_write.Statement.{statement}
 use Rattle.juntreak.proofs.juntreak_write.Tie as tie
 
@@ -29,7 +29,7 @@ returns c =
     let w = c.before.before.before.before in
     let r = w.before.before in
     let o = r.before.before.before.args.out.now in (
-      ap writeAnswer (w.write.ensures.0 ∙ ap (λ (t : Table). writing t (length o)) r.read_table.ensures),
+      ap write_answer (w.write.ensures.0 ∙ ap (λ (t : Table). writing t (length o)) r.read_table.ensures),
       w.write.ensures.1 ∙ ap (λ (t : Table). written_into t o) r.read_table.ensures,
     )
 

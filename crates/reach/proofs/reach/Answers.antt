@@ -11,7 +11,7 @@ use Rattle.table.proofs.Delays.{whole_delay}
 use Rattle.reach.specs.Reach.{reach_number, ticks_within}
 use Rattle.reach.specs.Code.Steps.{number_after}
 use Rattle.reach.proofs.Nears.{near_found}
-use Rattle.reach.proofs.Answers.{Fits, reach-fits, number_is, delay_is, told, refuses}
+use Rattle.reach.proofs.Answers.{Fits, reach_fits, number_is, delay_is, told, refuses}
 use Rattle.reach.proofs.reach.Goals as goal
 
 pub returns-then-number-ne0 : goal.returns-then-number-ne0
@@ -27,7 +27,7 @@ offset_bounds-t-rule c =
     c.reach_number-number.ensures ∙ ap (λ (r : RuleDelay). number_after r.number a.length a.tick) c.delay-d.ensures
     ∙ number_is a.t a.rule a.length a.tick) in
     let accepted : (let a = c.args in reach_number a.t a.rule a.length a.tick ≡ 0) = (sym number ∙ c.if-number-ne0.false) in
-    let fit : (let a = c.args in Fits a.t a.rule a.length a.tick) = (let a = c.args in reach-fits a.t a.rule a.length a.tick accepted) in
+    let fit : (let a = c.args in Fits a.t a.rule a.length a.tick) = (let a = c.args in reach_fits a.t a.rule a.length a.tick accepted) in
     let below : (c.args.rule < 8) = (let f = fit in omega (arith, f.sound.few_rules, f.rule_there)) in
     omega (arith, below)
 
@@ -37,7 +37,7 @@ bounds-t-rule c =
     c.reach_number-number.ensures ∙ ap (λ (r : RuleDelay). number_after r.number a.length a.tick) c.delay-d.ensures
     ∙ number_is a.t a.rule a.length a.tick) in
     let accepted : (let a = c.args in reach_number a.t a.rule a.length a.tick ≡ 0) = (sym number ∙ c.if-number-ne0.false) in
-    let fit : (let a = c.args in Fits a.t a.rule a.length a.tick) = (let a = c.args in reach-fits a.t a.rule a.length a.tick accepted) in
+    let fit : (let a = c.args in Fits a.t a.rule a.length a.tick) = (let a = c.args in reach_fits a.t a.rule a.length a.tick accepted) in
     let below : (c.args.rule < 8) = (let f = fit in omega (arith, f.sound.few_rules, f.rule_there)) in
     below
 
@@ -47,7 +47,7 @@ returns c =
     c.reach_number-number.ensures ∙ ap (λ (r : RuleDelay). number_after r.number a.length a.tick) c.delay-d.ensures
     ∙ number_is a.t a.rule a.length a.tick) in
     let accepted : (let a = c.args in reach_number a.t a.rule a.length a.tick ≡ 0) = (sym number ∙ c.if-number-ne0.false) in
-    let fit : (let a = c.args in Fits a.t a.rule a.length a.tick) = (let a = c.args in reach-fits a.t a.rule a.length a.tick accepted) in
+    let fit : (let a = c.args in Fits a.t a.rule a.length a.tick) = (let a = c.args in reach_fits a.t a.rule a.length a.tick accepted) in
     let l = c.all_nears-ds in
     let a = c.args in
     let k : length l.result ≤ 64 = search rules in

@@ -1,5 +1,5 @@
 -- By the number. Assumes nothing.
-use Rattle.scheduler.proofs.Answers.{CloseTried, ended-no, ended-yes, endable}
+use Rattle.scheduler.proofs.Answers.{CloseTried, ended_no, ended_yes, endable}
 use Rattle.scheduler.proofs.close.Goals.{After-close_number-number}
 use Rattle.scheduler.proofs.close.Goals as goal
 
@@ -9,7 +9,7 @@ tried k = record { found = k.record_at-r.ensures; bad = k.misfit-bad.ensures; nu
 
 pub returns-then-number-ne0 : goal.returns-then-number-ne0
 returns-then-number-ne0 c =
-    ended-no (tried (goal.at.returns-then-number-ne0 c).After-close_number-number)
+    ended_no (tried (goal.at.returns-then-number-ne0 c).After-close_number-number)
     c.if-number-ne0.true c.told.ensures c.not_closed.ensures
 
 pub close_at-a-requires : goal.close_at-a-requires
@@ -19,5 +19,5 @@ close_at-a-requires c =
 
 pub returns : goal.returns
 returns c =
-    ended-yes (tried (goal.at.returns c).After-close_number-number)
+    ended_yes (tried (goal.at.returns c).After-close_number-number)
     c.if-number-ne0.false c.close_at-a.ensures c.closed_by.ensures

@@ -1,6 +1,6 @@
 -- By the number. Assumes nothing.
 use native.Mathlib.Omega.{arith}
-use Rattle.scheduler.proofs.Answers.{LeaveTried, left-no, left-yes, left_fits}
+use Rattle.scheduler.proofs.Answers.{LeaveTried, left_no, left_yes, left_fits}
 use Rattle.scheduler.proofs.leave.Goals.{After-told-number}
 use Rattle.scheduler.proofs.leave.Goals as goal
 
@@ -15,7 +15,7 @@ tried k = record {
 }
 
 pub returns-then-number-ne0 : goal.returns-then-number-ne0
-returns-then-number-ne0 c = left-no (tried (goal.at.returns-then-number-ne0 c).After-told-number) c.if-number-ne0.true c.no_change.ensures
+returns-then-number-ne0 c = left_no (tried (goal.at.returns-then-number-ne0 c).After-told-number) c.if-number-ne0.true c.no_change.ensures
 
 pub overflow_mul-i : goal.overflow_mul-i
 overflow_mul-i c =
@@ -33,4 +33,4 @@ put_block-requires c =
     omega arith
 
 pub returns : goal.returns
-returns c = left-yes (tried (goal.at.returns c).After-told-number) c.if-number-ne0.false c.put_block.ensures
+returns c = left_yes (tried (goal.at.returns c).After-told-number) c.if-number-ne0.false c.put_block.ensures

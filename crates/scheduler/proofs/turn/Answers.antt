@@ -1,5 +1,5 @@
 -- By the number, and then by whether a record waits. Assumes nothing.
-use Rattle.scheduler.proofs.Answers.{TurnTried, turned-no, turned-idle, turned-served, turned-scratch, turned-count, servable}
+use Rattle.scheduler.proofs.Answers.{TurnTried, turned_no, turned_idle, turned_served, turned_scratch, turned_count, servable}
 use Rattle.scheduler.proofs.turn.Goals.{After-turn_number-number}
 use Rattle.scheduler.proofs.turn.Goals as goal
 
@@ -15,15 +15,15 @@ tried k = record {
 
 pub returns-then-number-ne0 : goal.returns-then-number-ne0
 returns-then-number-ne0 c =
-    turned-no (tried (goal.at.returns-then-number-ne0 c).After-turn_number-number) c.if-number-ne0.true c.told.ensures c.not_served.ensures
+    turned_no (tried (goal.at.returns-then-number-ne0 c).After-turn_number-number) c.if-number-ne0.true c.told.ensures c.not_served.ensures
 
 pub pass_by-requires : goal.pass_by-requires
 pass_by-requires c =
-    turned-scratch (tried (goal.at.pass_by-requires c).After-turn_number-number) c.if-number-ne0.false
+    turned_scratch (tried (goal.at.pass_by-requires c).After-turn_number-number) c.if-number-ne0.false
 
 pub returns-then-n-p : goal.returns-then-n-p
 returns-then-n-p c =
-    turned-idle (tried (goal.at.returns-then-n-p c).After-turn_number-number)
+    turned_idle (tried (goal.at.returns-then-n-p c).After-turn_number-number)
     c.if-number-ne0.false c.if-n-p.true c.pass_by.ensures
 
 pub feed_at-a-requires : goal.feed_at-a-requires
@@ -32,9 +32,9 @@ feed_at-a-requires c =
 
 pub served_by-requires : goal.served_by-requires
 served_by-requires c =
-    turned-count (tried (goal.at.served_by-requires c).After-turn_number-number) c.if-number-ne0.false
+    turned_count (tried (goal.at.served_by-requires c).After-turn_number-number) c.if-number-ne0.false
 
 pub returns : goal.returns
 returns c =
-    turned-served (tried (goal.at.returns c).After-turn_number-number)
+    turned_served (tried (goal.at.returns c).After-turn_number-number)
     c.if-number-ne0.false c.if-n-p.false c.feed_at-a.ensures c.served_by.ensures

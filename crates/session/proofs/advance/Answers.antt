@@ -1,12 +1,12 @@
 -- The verdicts that the block settles, and history renewed. Assumes nothing.
-use Rattle.session.proofs.Answers.{lent-part, feed-writes, feed_is}
+use Rattle.session.proofs.Answers.{lent_part, feed_writes, feed_is}
 use Rattle.session.proofs.advance.Goals as goal
 
 pub write_verdicts-requires : goal.write_verdicts-requires
 write_verdicts-requires c =
-    feed-writes c.requires c.lesser-h.ensures c.over.ensures c.over-2.ensures (lent-part c.lesser-h.result c.args.history.now)
+    feed_writes c.requires c.lesser-h.ensures c.over.ensures c.over-2.ensures (lent_part c.lesser-h.result c.args.history.now)
 
 pub returns : goal.returns
 returns c =
-    feed_is c.requires c.lesser-h.ensures c.over.ensures c.over-2.ensures c.lesser.ensures (lent-part c.lesser-h.result c.args.history.now)
+    feed_is c.requires c.lesser-h.ensures c.over.ensures c.over-2.ensures c.lesser.ensures (lent_part c.lesser-h.result c.args.history.now)
     c.write_verdicts.ensures c.keep.ensures

@@ -5,7 +5,7 @@ use lib.ListN.{length}
 use Rattle.lists.specs.Choice.{first}
 use Rattle.table.specs.Nodes.{wait_of}
 use Rattle.session.specs.Session.{unfit_by, close_rows, close_number_by}
-use Rattle.session.proofs.Answers.{unfit-is, delay_is, fit_is, CloseFits, close_fits, closed-refused, closed_accepted}
+use Rattle.session.proofs.Answers.{unfit_is, delay_is, fit_is, CloseFits, close_fits, closed_refused, closed_accepted}
 use Rattle.session.proofs.close_under.Goals.{After-close_number-number}
 use Rattle.session.proofs.close_under.Goals as goal
 
@@ -14,7 +14,7 @@ number : (c : After-close_number-number) → c.close_number-number.result
 number c =
     let a = c.args in
     c.close_number-number.ensures
-    ∙ ap (λ (b : Bool). first (close_rows b (length a.history.now) (length a.scratch.now) (length a.out.now))) (unfit-is a.old a.s c.delay_under-d.ensures)
+    ∙ ap (λ (b : Bool). first (close_rows b (length a.history.now) (length a.scratch.now) (length a.out.now))) (unfit_is a.old a.s c.delay_under-d.ensures)
 
 -- what the number 0 says
 fits : (c : After-close_number-number) → c.close_number-number.result ≡ 0 → let a = c.args in
@@ -26,7 +26,7 @@ fits c z =
 pub returns-then-number-ne0 : goal.returns-then-number-ne0
 returns-then-number-ne0 c =
     let a = c.args in
-    closed-refused a.old a.s a.history.now a.scratch.now a.out.now (number (goal.at.returns-then-number-ne0 c).After-close_number-number) c.if-number-ne0.true
+    closed_refused a.old a.s a.history.now a.scratch.now a.out.now (number (goal.at.returns-then-number-ne0 c).After-close_number-number) c.if-number-ne0.true
 
 pub finish-requires : goal.finish-requires
 finish-requires c =

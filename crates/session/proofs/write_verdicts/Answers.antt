@@ -6,15 +6,15 @@ use Rattle.lists.specs.Bits.{packed, words}
 use Rattle.mltl.specs.Mltl.{holds}
 use Rattle.table.specs.Nodes.{formula_at}
 use Rattle.lists.proofs.Columns.{length_packed}
-use Rattle.session.proofs.Answers.{judged-words, zeros-behind}
+use Rattle.session.proofs.Answers.{judged_words, zeros_behind}
 use Rattle.session.proofs.write_verdicts.Goals as goal
 
 pub returns : goal.returns
 returns c =
-    let w = judged-words c.requires c.judge.ensures in
+    let w = judged_words c.requires c.judge.ensures in
     let a = c.args in
     let f = holds (formula_at a.t.nodes a.place) (a.older.now ++ a.newer.now) in (
       w.0,
-      zeros-behind (packed a.count f) a.out.now c.judge.new.out a.m (words a.count) (length_packed a.count f) c.requires.room c.requires.out_fits w.1
+      zeros_behind (packed a.count f) a.out.now c.judge.new.out a.m (words a.count) (length_packed a.count f) c.requires.room c.requires.out_fits w.1
           (a.m - words a.count) refl c.clear.ensures,
     )

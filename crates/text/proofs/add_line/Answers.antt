@@ -10,8 +10,8 @@ room : (c : Else-number-ne0) → c.loop-k.u.node_count < 64
 room c =
     node_room c.loop-k.invariant c.loop-k-test.true c.made_at-m.ensures c.node_of-n.ensures c.delay_among-d.ensures c.node_number-number.ensures c.if-number-ne0.false
 
-rule-place : (c : Else-number-ne0-2) → c.loop-k.u.rule_count < 8
-rule-place c =
+rule_place_lem : (c : Else-number-ne0-2) → c.loop-k.u.rule_count < 8
+rule_place_lem c =
     rule_room c.loop-k.invariant c.loop-k-test.false c.args.name c.rule_of-r.ensures c.rule_number-number.ensures c.if-number-ne0-2.false
 
 pub loop-k-init : goal.loop-k-init
@@ -50,13 +50,13 @@ returns-then-number-ne0-2 c = (
 )
 
 pub offset_bounds-u-at-2 : goal.offset_bounds-u-at-2
-offset_bounds-u-at-2 c = omega (arith, rule-place c)
+offset_bounds-u-at-2 c = omega (arith, rule_place_lem c)
 
 pub bounds-u-at-2 : goal.bounds-u-at-2
-bounds-u-at-2 c = rule-place c
+bounds-u-at-2 c = rule_place_lem c
 
 pub overflow_add-u-2 : goal.overflow_add-u-2
-overflow_add-u-2 c = omega (arith, rule-place c)
+overflow_add-u-2 c = omega (arith, rule_place_lem c)
 
 pub returns : goal.returns
 returns c =

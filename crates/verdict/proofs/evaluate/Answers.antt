@@ -6,7 +6,7 @@ use borrow.Author.Rules.{rules}
 use lib.ListN.{length-append}
 use Rattle.lists.specs.Bits.{words}
 use Rattle.lists.proofs.Sequences.{length_mapped}
-use Rattle.verdict.proofs.Answers.{cleared-is, told_is}
+use Rattle.verdict.proofs.Answers.{cleared_is, told_is}
 use Rattle.needed.specs.Marks.{Needs}
 use Rattle.needed.proofs.Marked.{needs_by}
 use Rattle.layout.proofs.Runs.{runnable}
@@ -38,5 +38,5 @@ returns c =
     let e : (a.count + 63) / 64 - 0 ≡ words a.count = omega arith in (
       told_is a.out.now a.k a.count ((a.count + 63) / 64 - 0) e h.ticks h.out_fits (marks (goal.at.returns c).After-needed_for-marks).top r.ensures
           (omega (arith, h.place, h.short, h.scratch_fits, r.auto.s)) c.copy_out.ensures c.keep_below.ensures,
-      cleared-is a.scratch.now r.new.s (omega (arith, h.scratch_fits, r.auto.s)) c.clear.ensures r.ensures.high,
+      cleared_is a.scratch.now r.new.s (omega (arith, h.scratch_fits, r.auto.s)) c.clear.ensures r.ensures.high,
     )

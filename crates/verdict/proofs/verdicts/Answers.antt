@@ -7,7 +7,7 @@ use lib.ListN.{length}
 use Rattle.lists.specs.Choice.{first}
 use Rattle.table.specs.Nodes.{rule_at}
 use Rattle.verdict.specs.Verdict.{whole_number, whole_number_for, whole_rows}
-use Rattle.verdict.proofs.Answers.{accepts, ready-sound, refuses, WholeFits, whole-fits}
+use Rattle.verdict.proofs.Answers.{accepts, ready_sound, refuses, WholeFits, whole_fits}
 use mathlib.Core.List.{List}
 use Prim.Native.Nat.{ℕ}
 use Rattle.table.specs.declared.Table.{Table}
@@ -22,7 +22,7 @@ number t r states x o e s = e ∙ ap (λ (b : Bool). first (whole_rows b t.rule_
 -- no row fits
 fit : (t : Table) (r : ℕ) (states x o : List ℕ) {n : ℕ} {b : Bool}
     → n ≡ first (whole_rows b t.rule_count r (length states) (length x) (length o)) → b ≡ is_sound t → n ≡ 0 → WholeFits t r (length states) (length x) (length o)
-fit t r states x o e s z = whole-fits t r (length states) (length x) (length o) (sym (number t r states x o e s) ∙ z)
+fit t r states x o e s z = whole_fits t r (length states) (length x) (length o) (sym (number t r states x o e s) ∙ z)
 
 few : {t : Table} {r k x o : ℕ} → WholeFits t r k x o → r < 8
 few f = omega (arith, f.sound.few_rules, f.rule_there)
@@ -43,6 +43,6 @@ returns c =
     let a = c.args in
     let f = fit a.t a.rule a.states.now a.scratch.now a.out.now c.whole_number-number.ensures c.sound.ensures c.if-number-ne0.false in
     accepts (sym (number a.t a.rule a.states.now a.scratch.now a.out.now c.whole_number-number.ensures c.sound.ensures) ∙ c.if-number-ne0.false)
-    (ready-sound a.t (rule_at a.t a.rule).watched a.states.now (length a.states.now) a.scratch.now a.out.now f.sound.places f.sound
-    (f.sound.rule a.rule f.rule_there).watched f.few-states (omega arith) f.scratch_fits f.out_fits)
+    (ready_sound a.t (rule_at a.t a.rule).watched a.states.now (length a.states.now) a.scratch.now a.out.now f.sound.places f.sound
+    (f.sound.rule a.rule f.rule_there).watched f.few_states (omega arith) f.scratch_fits f.out_fits)
     c.judge.ensures
