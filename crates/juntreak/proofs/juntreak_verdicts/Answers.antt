@@ -1,0 +1,7 @@
+-- The table is what its bytes hold. Assumes nothing.
+use Rattle.juntreak.proofs.Laws.{answered_by}
+use Rattle.juntreak.proofs.juntreak_verdicts.Goals as goal
+
+pub returns : goal.returns
+returns c =
+    answered_by c.read_table-t.ensures c.verdicts.ensures
