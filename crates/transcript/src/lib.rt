@@ -1,3 +1,2 @@
 // No code: what the program watch prints, as a theorem.
 #![tactic(auto)]
-
