@@ -62,7 +62,7 @@ Closes p h text used =
 
 -- ---- a run of the program: it begins, and makes a step as long as it goes on; the parts are whatever the reads of the input gave.
 -- `read` are the bytes that its steps have read, joined, and `shown` their texts, joined. What is printed then is in proofs/Printing:
--- `ended-printed`, `last_Line`, `refused-printed`, `all-printed`.
+-- `ended-printed`, `last_line`, `refused-printed`, `all-printed`.
 pub data Run (m : Start) : List ℕ → List ℕ → Progress → List ℕ → List ℕ → Type 0 where
   begun : {p : Progress} {h block : List ℕ} → p.going ≡ true → Runs m false [] [] p h block → Run m [] [] p h block
   stepped : {read shown : List ℕ} {p : Progress} {h block : List ℕ} (part : List ℕ) (at : ℕ) (h' block' text : List ℕ) (o : StepAnswer)

@@ -2,21 +2,27 @@
 // of the book's first rule.
 #![tactic(auto)]
 
-ghost use Rattle.std.specs.Prelude.{◌≡◌, false, ◌≤◌, ◌<◌, length};
+ghost use Rattle.std.specs.Prelude.{◌≡◌, false, ◌≤◌, ◌<◌, length, IfOk};
 ghost use Rattle.limits.specs.Limits.{max_block};
 ghost use Rattle.watch.specs.Steps.{Ready, ReadyIfGoing, Begins, Fed, Steps, Closes, Consumed, Completed};
 
-use libc::{STDIN_FILENO, STDOUT_FILENO};
 use limits::{BOOK_BYTES, CLOSE_WORDS, HISTORY_WORDS, MAX_BLOCK, SCRATCH_WORDS};
 use lines::Line;
 use rows::TEXT_BYTES;
 use session::Session;
+use std::fs::{File, Files};
+use std::io::{self, Eprint, ErrorKind, Read, Write};
 use table::Table;
 
 // The room for a book has a byte more than the longest, to show a longer one; a count above it stands for a book that cannot be read.
 const ROOM: usize = BOOK_BYTES + 1;
 
 const UNREADABLE: usize = ROOM + 1;
+
+const BOOK_NAME: &str = "rules.bin";
+
+// How many bytes of standard input are asked for at once.
+const PART_BYTES: usize = 65536;
 
 // What is kept from one part of the input to the next: the session, the rule's name, the line so far, how many states wait in the block, the tick of
 // the next verdict, and whether the program goes on.
@@ -154,17 +160,24 @@ fn close(
     rows::put_rows(text, p.name, p.tick, out, b.count)
 }
 
+// Tells on standard error what cannot be read or written. Where that fails too, there is nobody to tell.
+fn fail(rt: &impl Eprint, name: &str, error: io::Error) {
+    let _ = eprintln!(rt; "{name}: {error}");
+}
+
 // Writes the first bytes of the text; answers whether all were taken. No step uses more bytes than the text has: the first test makes this function
 // total.
-fn write(text: &[u8], used: usize) -> bool {
+fn write<W: Write>(rt: &impl Eprint, to: &mut W, text: &[u8], used: usize) -> bool {
     if used > text.len() {
         return false;
     }
-    if io::write_all(STDOUT_FILENO, &text[..used]) {
-        return true;
+    match to.write_all(&text[..used]) {
+        Ok(()) => true,
+        Err(error) => {
+            fail(rt, "standard output", error);
+            false
+        }
     }
-    os::fail(b"standard output");
-    false
 }
 
 // The same, and the program ends.
@@ -184,7 +197,9 @@ fn ended(p: Progress) -> Progress
 }
 
 // All lines of a part, step by step; after each step its text is written.
-fn consume(
+fn consume<W: Write>(
+    rt: &impl Eprint,
+    to: &mut W,
     first: Progress,
     part: &[u8],
     block: &mut [u32],
@@ -201,7 +216,7 @@ fn consume(
     while at < part.len() {
         let o = step(p, part, at, block, history, scratch, out, text);
         let next = o.progress;
-        if !write(text, o.used) {
+        if !write(rt, to, text, o.used) {
             return ended(next);
         }
         if !next.going {
@@ -215,7 +230,10 @@ fn consume(
 
 // All of standard input. A proved loop has to end, so it counts its reads, up to 2^64 - 1 rounds of 2^64 - 1: more than any mission has, since a state
 // takes 11 bytes at most and a read gives one at least.
-fn run(
+fn run<R: Read, W: Write>(
+    rt: &impl Eprint,
+    input: &mut R,
+    to: &mut W,
     first: Progress,
     block: &mut [u32],
     history: &mut [u32; HISTORY_WORDS],
@@ -226,21 +244,22 @@ fn run(
     requires { Ready first × (length block.old ≡ max_block) }
     ensures { ReadyIfGoing result }
 {
-    let mut buf = io::large_buffer();
+    let mut buf = [0u8; PART_BYTES];
     let mut p = first;
     let mut rounds = u64::MAX;
     let mut reads = 0;
     while rounds > 0 {
-        let got = libc::read(STDIN_FILENO, &mut buf);
-        if got < 0 {
-            os::fail(b"standard input");
-            return ended(p);
-        }
-        if got == 0 {
+        let n = match input.read(&mut buf) {
+            Ok(n) => n,
+            Err(error) => {
+                fail(rt, "standard input", error);
+                return ended(p);
+            }
+        };
+        if n == 0 {
             return p;
         }
-        let n = io::count(got, &buf);
-        p = consume(p, &buf[..n], block, history, scratch, out, text);
+        p = consume(rt, to, p, &buf[..n], block, history, scratch, out, text);
         if !p.going {
             return p;
         }
@@ -252,7 +271,9 @@ fn run(
 }
 
 // The line end that the last line may lack.
-fn last_line(
+fn last_line<W: Write>(
+    rt: &impl Eprint,
+    to: &mut W,
     p: Progress,
     block: &mut [u32],
     history: &mut [u32; HISTORY_WORDS],
@@ -269,14 +290,16 @@ fn last_line(
     }
     let o = step(p, b"\n", 0, block, history, scratch, out, text);
     let next = o.progress;
-    if write(text, o.used) {
+    if write(rt, to, text, o.used) {
         return next;
     }
     ended(next)
 }
 
 // The end of the input: the last line, the last block, and the close.
-fn finish(
+fn finish<W: Write>(
+    rt: &impl Eprint,
+    to: &mut W,
     first: Progress,
     block: &mut [u32],
     history: &mut [u32; HISTORY_WORDS],
@@ -286,12 +309,12 @@ fn finish(
 )
     requires { Ready first × (length block.old ≡ max_block) }
 {
-    let p = last_line(first, block, history, scratch, out, text);
+    let p = last_line(rt, to, first, block, history, scratch, out, text);
     if !p.going {
         return;
     }
     let o = feed(p, 0, block, history, scratch, out, text);
-    if !write(text, o.used) {
+    if !write(rt, to, text, o.used) {
         return;
     }
     let last = o.progress;
@@ -299,7 +322,7 @@ fn finish(
         return;
     }
     let used = close(last, history, scratch, out, text);
-    write(text, used);
+    write(rt, to, text, used);
 }
 
 // The first rule of a table that was read, simplified and opened.
@@ -324,59 +347,106 @@ fn begin(t: Table) -> Progress
 }
 
 // Watches the first rule of a table that was read.
-fn watch(t: Table, text: &mut [u8; TEXT_BYTES]) {
+fn watch<R: Read, W: Write>(
+    rt: &impl Eprint,
+    input: &mut R,
+    to: &mut W,
+    t: Table,
+    text: &mut [u8; TEXT_BYTES],
+) {
     let p = begin(t);
     let mut block = [0u32; MAX_BLOCK];
     let mut history = [0u32; HISTORY_WORDS];
     let mut scratch = [0u64; SCRATCH_WORDS];
     let mut out = [0u64; CLOSE_WORDS];
-    let last = run(p, &mut block, &mut history, &mut scratch, &mut out, text);
+    let last = run(
+        rt,
+        input,
+        to,
+        p,
+        &mut block,
+        &mut history,
+        &mut scratch,
+        &mut out,
+        text,
+    );
     if last.going {
-        finish(last, &mut block, &mut history, &mut scratch, &mut out, text);
+        finish(
+            rt,
+            to,
+            last,
+            &mut block,
+            &mut history,
+            &mut scratch,
+            &mut out,
+            text,
+        );
     }
 }
 
-// The book in rules.bin, which counts as empty if it is missing: how many bytes it has, or more than the buffer has if it cannot be read. One more
-// read tells an end from a failure.
-fn load(book: &mut [u8]) -> usize {
-    let name = b"rules.bin";
-    let fd = os::open_read(name);
-    if fd < 0 {
-        if os::errno() == libc::ENOENT {
-            return 0;
+// Reads to the end, or until the buffer is full: how many bytes came.
+fn fill<R: Read>(file: &mut R, book: &mut [u8]) -> io::Result<usize>
+    ensures bound { IfOk result (λ n. n ≤ length book.new) }
+{
+    let mut at = 0;
+    while at < book.len() {
+        let n = file.read(&mut book[at..])?;
+        if n == 0 {
+            return Ok(at);
         }
-        os::fail(name);
-        return UNREADABLE;
+        at += n;
     }
-    let n = io::read_full(fd, book);
-    let mut byte = [0u8; 1];
-    let more = libc::read(fd, &mut byte);
-    if more < 0 {
-        os::fail(name);
-        return UNREADABLE;
+    Ok(at)
+}
+
+// A book that cannot be read, which is told.
+fn unreadable(rt: &impl Eprint, error: io::Error) -> usize {
+    fail(rt, BOOK_NAME, error);
+    UNREADABLE
+}
+
+// The book in rules.bin, which counts as empty if it is missing: how many bytes it has, or more than the buffer has if it cannot be read.
+fn load<R: Files + Eprint>(rt: &R, book: &mut [u8]) -> usize {
+    match File::open(rt, BOOK_NAME) {
+        Ok(mut file) => match fill(&mut file, book) {
+            Ok(n) => n,
+            Err(error) => unreadable(rt, error),
+        },
+        Err(error) if error.kind() == ErrorKind::NotFound => 0,
+        Err(error) => unreadable(rt, error),
     }
-    libc::close(fd);
-    n
 }
 
 // A refused book.
-fn tell(number: u8, place: u8, text: &mut [u8; TEXT_BYTES]) {
+fn tell<W: Write>(
+    rt: &impl Eprint,
+    to: &mut W,
+    number: u8,
+    place: u8,
+    text: &mut [u8; TEXT_BYTES],
+) {
     let used = rows::put_book(text, number, place);
-    write(text, used);
+    write(rt, to, text, used);
 }
 
-fn main() {
+fn main(rt: HostRuntime) {
     let mut bytes = [0u8; ROOM];
-    let n = load(&mut bytes);
+    let n = load(&rt, &mut bytes);
     if n > ROOM {
         return;
     }
     let mut text = [0u8; TEXT_BYTES];
     let reading = book::read(&bytes[..n]);
     if reading.number != 0 {
-        tell(reading.number, reading.record, &mut text);
+        tell(
+            &rt,
+            &mut rt.stdout(),
+            reading.number,
+            reading.record,
+            &mut text,
+        );
         return;
     }
     let table = reading.table;
-    watch(table, &mut text);
+    watch(&rt, &mut rt.stdin(), &mut rt.stdout(), table, &mut text);
 }
