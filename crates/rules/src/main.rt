@@ -1,18 +1,18 @@
 // The program rules: reads typed rules from standard input and writes their book to standard output, or tells on standard error why they are refused.
 #![tactic(auto)]
 
-ghost use Rattle.std.specs.Prelude.{◌≡◌, ◌+◌, length};
+ghost use Rattle.std.specs.Prelude.{◌≡◌, ◌+◌, ◌≤◌, ◌<◌, length, take, IfOk, OnOk};
+ghost use Rattle.std.specs.Io.KnownBytes.{Appends, Consumes, IsAtEnd};
 ghost use Rattle.message.specs.Message.{max_text};
 ghost use Rattle.rules.specs.Output.{Compiles};
 
-use libc::{STDERR_FILENO, STDIN_FILENO, STDOUT_FILENO};
 use limits::WRITTEN_BYTES;
 use message::{MAX_TEXT, MESSAGE_BYTES};
+use std::io;
+use std::io::{Read, Write};
 
-// The room for a text has a byte more than the longest, to show a longer one; a count above it stands for a text that cannot be read.
+// The room for a text has a byte more than the longest, to show a longer one.
 const ROOM: usize = MAX_TEXT + 1;
-
-const UNREADABLE: usize = ROOM + 1;
 
 // How many bytes of the book and of the message are to be written.
 #[derive(Clone, Copy)]
@@ -59,43 +59,53 @@ fn room() -> [u8; ROOM]
     [0; ROOM]
 }
 
-// Reads standard input to its end, or until the buffer is full: how many bytes came; more than the buffer has if it cannot be read.
-fn load(text: &mut [u8]) -> usize {
+// Reads the input to its end, or until the buffer is full: how many bytes came.
+fn load<R: Read>(input: &mut R, text: &mut [u8]) -> io::Result<usize>
+    ensures bound { IfOk result (λ n. n ≤ length text.new) }
+    ensures bytes { IfOk result (λ n. Consumes (R.remaining input.old) (R.remaining input.new) (take n text.new)) }
+    ensures end { IfOk result (λ n. n < length text.new → IsAtEnd (R.remaining input.new)) }
+{
     let mut at = 0;
     while at < text.len() {
-        let got = libc::read(STDIN_FILENO, &mut text[at..]);
-        if got < 0 {
-            os::fail(b"standard input");
-            return UNREADABLE;
-        }
-        let n = io::count(got, &text[at..]);
+        let n = input.read(&mut text[at..])?;
         if n == 0 {
-            return at;
+            return Ok(at);
         }
         at += n;
     }
-    at
+    Ok(at)
 }
 
 // Writes the first bytes of a buffer. No step uses more bytes than there are: the first test makes this function total.
-fn write(fd: i32, name: &[u8], bytes: &[u8], used: usize) {
+fn write<W: Write>(to: &mut W, bytes: &[u8], used: usize) -> io::Result<()>
+    ensures { OnOk result (used ≤ length bytes.now → Appends (W.contents to.old) (W.contents to.new) (take used bytes.now)) }
+{
     if used > bytes.len() {
-        return;
+        return Ok(());
     }
-    if !io::write_all(fd, &bytes[..used]) {
-        os::fail(name);
-    }
+    to.write_all(&bytes[..used])
 }
 
-fn main() {
+// Tells on standard error what cannot be read or written. Where that fails too, there is nobody to tell.
+fn tell(rt: &impl Eprint, name: &str, error: io::Error) {
+    let _ = eprintln!(rt; "{name}: {error}");
+}
+
+// A read or a write that fails is told on standard error, and the exit status is 0 all the same.
+fn main(rt: HostRuntime) {
     let mut text = room();
-    let n = load(&mut text);
-    if n > ROOM {
-        return;
+    match load(&mut rt.stdin(), &mut text) {
+        Ok(n) => {
+            let mut book = [0u8; WRITTEN_BYTES];
+            let mut message = [0u8; MESSAGE_BYTES];
+            let c = compile(&text[..n], &mut book, &mut message);
+            if let Err(error) = write(&mut rt.stdout(), &book, c.book_bytes) {
+                tell(&rt, "standard output", error);
+            }
+            if let Err(error) = write(&mut rt.stderr(), &message, c.message_bytes) {
+                tell(&rt, "standard error", error);
+            }
+        }
+        Err(error) => tell(&rt, "standard input", error),
     }
-    let mut book = [0u8; WRITTEN_BYTES];
-    let mut message = [0u8; MESSAGE_BYTES];
-    let c = compile(&text[..n], &mut book, &mut message);
-    write(STDOUT_FILENO, b"standard output", &book, c.book_bytes);
-    write(STDERR_FILENO, b"standard error", &message, c.message_bytes);
 }
