@@ -9,7 +9,7 @@ use Rattle.lists.specs.Choice.{pick}
 use Rattle.lists.specs.Sequence.{ticks, last_of}
 use Rattle.lists.proofs.Tests.{true_left, true_right}
 use Rattle.acts.specs.World.{World, Width, Session, Act, feed, close, widen, change}
-use Rattle.acts.specs.Calls.{Call, is_accepted, states_fed, verdicts_given, Rules, opened, rules_by, ruled, Calls, HeldUnder, GoingUnder, EndedUnder, ClaimUnder, kept}
+use Rattle.acts.specs.Calls.{Call, is_accepted, states_fed, verdicts_given, Rules, opened, rules_by, ruled, Calls, HeldUnder, GoingUnder, EndedUnder, ClaimUnder}
 use Rattle.acts.specs.Demand.{opening, session_by}
 use Rattle.acts.specs.Claim.{Going, Ended, Claim}
 use Rattle.acts.specs.WithoutChanges.{keeps_rule, unchanged, WithoutChanges}

@@ -4,30 +4,25 @@ use native.Mathlib.Omega.{arith}
 use mathlib.Core.Path.{◌≡◌, refl, ap, ap₂, ◌∙◌}
 use mathlib.Core.Bool.{true, false≢true}
 use mathlib.Core.Logic.{⊎_elim}
-use borrow.Author.Tests.{lt-ltb, le-ltb, ltb-true, eq-eqb, ne_eqb}
+use borrow.Author.Tests.{ltb-true, eq-eqb, ne_eqb}
 use lib.Dec.{ltb, eqb}
 use Rattle.lists.specs.Choice.{pick}
 use Rattle.lists.proofs.Tests.{lt_or_le, true_left, true_right}
+use Rattle.mltl.proofs.Until.{until_early, until_once}
 use Rattle.mltl.specs.Mltl.{Formula, signal, const, neg, and, or, F, G, U, R, until_delay, old_until_delay, delay_by, delay, old_delay, computation_length, every_until, until_free}
 
 module _ (lo hi a b : ℕ) where
-  pub until_early : lo < hi → until_delay lo hi a b ≡ hi + max (a - 1) b
-  until_early l = rw (lt-ltb lo hi l)
-
-  pub until_once : hi ≤ lo → until_delay lo hi a b ≡ hi + b
-  until_once l = rw (le-ltb lo hi l)
-
   -- A5 in its words
   pub until_worded : lo ≤ hi → until_delay lo hi a b ≡ pick (eqb lo hi) (hi + b) (hi + max (a - 1) b)
   until_worded h =
-      ⊎_elim (λ (l : lo < hi). until_early l ∙ rw (ne_eqb lo hi (λ e. omega arith)))
-      (λ (l : hi ≤ lo). let e : lo ≡ hi = omega arith in until_once l ∙ rw (eq-eqb lo hi e)) (lt_or_le lo hi)
+      ⊎_elim (λ (l : lo < hi). until_early lo hi a b l ∙ rw (ne_eqb lo hi (λ e. omega arith)))
+      (λ (l : hi ≤ lo). let e : lo ≡ hi = omega arith in until_once lo hi a b l ∙ rw (eq-eqb lo hi e)) (lt_or_le lo hi)
 
   pub until_left : lo < hi → hi + a ≤ until_delay lo hi a b + 1
-  until_left l = let e = until_early l in omega arith
+  until_left l = let e = until_early lo hi a b l in omega arith
 
   pub until_right : hi + b ≤ until_delay lo hi a b
-  until_right = ⊎_elim (λ (l : lo < hi). let e = until_early l in omega arith) (λ (l : hi ≤ lo). let e = until_once l in omega arith) (lt_or_le lo hi)
+  until_right = ⊎_elim (λ (l : lo < hi). let e = until_early lo hi a b l in omega arith) (λ (l : hi ≤ lo). let e = until_once lo hi a b l in omega arith) (lt_or_le lo hi)
 
 -- operands that wait no longer
 pub until_no_longer : (lo hi a b a' b' : ℕ) → a ≤ a' → b ≤ b' → until_delay lo hi a b ≤ until_delay lo hi a' b'

@@ -1,6 +1,6 @@
 -- The operators over a whole interval, ticks not yet seen included: `whole` and `wholeRelease` are G and R on a trace that is long enough, so that their
 -- laws are those of U turned round. Assumes nothing.
-use Prim.Native.Nat.{ℕ, ◌+◌, ◌-◌, ◌≤◌, ◌<◌, min}
+use Prim.Native.Nat.{ℕ, ◌+◌, ◌≤◌, ◌<◌, min}
 use native.Mathlib.Omega.{arith}
 use mathlib.Core.Path.{◌≡◌, refl, sym, ap, ap₂, ◌∙◌, fun_ext, subst}
 use mathlib.Core.Logic.Iff

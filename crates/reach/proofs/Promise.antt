@@ -1,10 +1,9 @@
 -- What a caller relies on. Assumes nothing.
-use Prim.Native.Nat.{ℕ, ◌-◌, ◌≤◌, ◌<◌}
-use native.Mathlib.Omega.{arith}
+use Prim.Native.Nat.{ℕ, ◌<◌}
 use mathlib.Core.Path.{◌≡◌, refl, sym, subst}
 use mathlib.Core.Logic.{◌↔◌}
 use mathlib.Core.Bool.{Bool, true, false}
-use borrow.Author.Tests.{ltb-true, ltb-false, eqb-true}
+use borrow.Author.Tests.{eqb-true}
 use lib.Dec.{ltb, eqb}
 use Rattle.lists.specs.Choice.{pick, some_fits}
 use Rattle.lists.proofs.Rows.{refused_exactly}
@@ -14,28 +13,15 @@ use Rattle.table.specs.Nodes.{watched_formula}
 use Rattle.table.specs.Sound.{is_sound}
 use Rattle.table.specs.declared.Table.{Table}
 use Rattle.table.proofs.Soundness.{sound_iff}
-use Rattle.reach.specs.Reach.{Reached, refused, empty, ticks, Among, Inside, ticks_within, reach_rows, reach_number, reached}
+use Rattle.reach.specs.Reach.{Reached, refused, Among, Inside, ticks_within, reach_rows, reach_number, reached}
 use Rattle.reach.specs.Promise.{Relied}
 use Rattle.reach.proofs.Nears.{near_first}
 use Rattle.reach.proofs.Answers.{reach_fits, told}
+use Rattle.reach.proofs.Within.{within_iff, within_inside}
 
 exactly_refused : (t : Table) (rule n s : ℕ) → (¬ (reach_number t rule n s ≡ 0)) ↔ (some_fits (reach_rows (is_sound t) t.rule_count rule n s) ≡ true)
 unfolding reach_number
 exactly_refused t rule n s = refused_exactly (reach_rows (is_sound t) t.rule_count rule n s) refl
-
--- ---- the ticks from s - d to s - c
-module _ (c d n s : ℕ) (h : s < n) where
-  within_iff : (b : Bool) → ltb s c ≡ b → (i : ℕ) → Among (pick b empty (ticks (s - d) (s - c))) i ↔ ((i < n) × InReach c d s i)
-  within_iff true e i = (λ x. absurd x, λ x. let l = ltb-true s c e in let k = x.1.to in absurd (omega arith))
-  within_iff false e i =
-      let l = ltb-false s c e in (
-        λ x. (omega arith, record { from = omega arith; to = omega arith }),
-        λ x. let p = x.1.from in let q = x.1.to in (omega arith, omega arith),
-      )
-
-  within_inside : (b : Bool) → ltb s c ≡ b → c ≤ d → Inside n (pick b empty (ticks (s - d) (s - c)))
-  within_inside true e l = tt
-  within_inside false e l = let k = ltb-false s c e in (omega arith, omega arith)
 
 module _ (t : Table) (rule n s : ℕ) where
   abbrev f : Formula

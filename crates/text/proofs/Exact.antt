@@ -8,7 +8,6 @@ use mathlib.Core.Bool.{false}
 use lib.ListN.{length, get_or}
 use Rattle.lists.proofs.Sequences.{length_snoc}
 use Rattle.mltl.specs.Mltl.{Formula, signal, const, neg, and, or, F, G, U, R, delay_by, old_delay}
-use Rattle.mltl.proofs.Delays.{delay_sooner}
 use Rattle.table.specs.Nodes.{no_table}
 use Rattle.table.specs.declared.Table.{Table}
 use Rattle.limits.specs.Limits.{max_depth}
@@ -16,12 +15,13 @@ use Rattle.grammar.specs.Grammar.{Line}
 use Rattle.grammar.specs.Made.{nodes_of}
 use Rattle.text.specs.declared.Typed.{Typed}
 use Rattle.text.specs.Typing.{line_added, typed}
-use Rattle.text.specs.Accepted.{Lines, none, more, longest_by, AcceptedBy, longest, Accepted, StaysAccepted}
+use Rattle.text.specs.Accepted.{Lines, none, more, longest_by, AcceptedBy, Accepted, StaysAccepted}
 use Rattle.text.specs.Outcome.{Reached, begins, goes_on, Outcome, empty, byte, deep, faulty, whole}
 use Rattle.text.proofs.Grows.{Refusal}
 use Rattle.text.proofs.Holds.{Holds, LineFits, Line as Taking, taken, turned, line}
 use Rattle.text.proofs.Means.{Part, part_of, within_of, part_none, part_more, part_front, part_line, holds_none, reached_means}
 use Rattle.text.proofs.Outcomes.{outcome}
+use Rattle.text.proofs.Sooner.{longest_sooner}
 use Rattle.text.proofs.Runs.{behind, line_shorter, run_end, runs}
 
 -- ---- an accepted text
@@ -88,17 +88,6 @@ pub accepted_exactly : (text : List ℕ) → ((typed text).number ≡ 0) ↔ Acc
 accepted_exactly text = (outcome_accepted (outcome text), accepted_in text)
 
 -- ---- when the delay was the one before A5
-longest_sooner : (f : Formula) → longest f ≤ longest_by old_delay f
-unfolding longest_by
-longest_sooner (signal n) = delay_sooner (signal n)
-longest_sooner (const b) = delay_sooner (const b)
-longest_sooner (neg a) = omega (arith, delay_sooner (neg a), longest_sooner a)
-longest_sooner (and a b) = omega (arith, delay_sooner (and a b), longest_sooner a, longest_sooner b)
-longest_sooner (or a b) = omega (arith, delay_sooner (or a b), longest_sooner a, longest_sooner b)
-longest_sooner (F lo hi a) = omega (arith, delay_sooner (F lo hi a), longest_sooner a)
-longest_sooner (G lo hi a) = omega (arith, delay_sooner (G lo hi a), longest_sooner a)
-longest_sooner (U lo hi a b) = omega (arith, delay_sooner (U lo hi a b), longest_sooner a, longest_sooner b)
-longest_sooner (R lo hi a b) = omega (arith, delay_sooner (R lo hi a b), longest_sooner a, longest_sooner b)
 
 -- then no part waited longer than the whole: the limit was that of the formula's own delay
 pub longest_old : (f : Formula) → longest_by old_delay f ≡ old_delay f

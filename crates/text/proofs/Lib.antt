@@ -18,6 +18,8 @@ mod Grows
 mod Holds
 -- the lines that are read are within the limits, and the table's rules are theirs
 mod Means
+-- no part of a formula waits longer than it did before A5
+mod Sooner
 -- a text is accepted exactly if its lines are of the grammar and within the limits
 pub mod Exact
 -- the numbers that a text is answered with

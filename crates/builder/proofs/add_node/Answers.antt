@@ -2,7 +2,6 @@
 use Prim.Native.Nat.{◌<◌}
 use native.Mathlib.Omega.{arith}
 use mathlib.Core.Path.{◌≡◌}
-use borrow.Author.Rules.{rules}
 use Rattle.lists.specs.Choice.{first}
 use Rattle.table.specs.Nodes.{delay_over, delays}
 use Rattle.builder.specs.Adding.{add_node_rows, with_node, adding_node}

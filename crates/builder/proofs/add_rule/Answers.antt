@@ -3,7 +3,6 @@ use Prim.Native.Nat.{◌<◌}
 use native.Mathlib.Omega.{arith}
 use Rattle.builder.specs.Adding.{with_rule, adding_rule}
 use Rattle.builder.proofs.Answers.{refused_is, accepted_is, rule_place_lem}
-use borrow.Author.Rules.{rules}
 use Rattle.builder.proofs.add_rule.Goals as goal
 
 -- the free place

@@ -1,5 +1,4 @@
 -- What the callee ensures. Assumes nothing.
-use borrow.Author.Rules.{rules}
 use Rattle.builder.proofs.name_used.Goals as goal
 
 pub returns : goal.returns

@@ -1,5 +1,4 @@
 -- Each test, and the rows from the last to the first. Assumes nothing.
-use borrow.Author.Rules.{rules}
 use Rattle.builder.proofs.node_number.Goals as goal
 
 pub returns : goal.returns

@@ -1,11 +1,7 @@
 -- `column::clear` meets its contract. The invariant: the first w words are 0. Assumes nothing.
-use mathlib.Core.Path.{refl, ◌∙◌}
 use mathlib.Core.Bool.{false}
 use Prim.Native.Nat.{◌-◌, ◌≤◌}
-use borrow.Author.Rules.{rules}
 use Rattle.column.specs.Column.{Swept}
-use Rattle.column.proofs.Words.{no_word}
-use Rattle.column.proofs.Sweeps.{swept_none, swept_next, swept_whole, pack_none}
 use Rattle.column.proofs.clear.Given as goal
 
 abbrev pub invariant-loop-w : goal.invariant-loop-w

@@ -1,12 +1,6 @@
 -- `column::complement` meets its contract. The invariant: the first w words are flipped. Assumes nothing.
-use mathlib.Core.Path.{refl}
 use Prim.Native.Nat.{◌-◌, ◌≤◌}
-use native.Mathlib.Omega.{arith}
-use borrow.Author.Rules.{rules}
-use lib.ListN.{length}
 use Rattle.column.specs.Column.{Swept, flipped, register}
-use Rattle.column.proofs.Words.{not_word}
-use Rattle.column.proofs.Sweeps.{swept_none, swept_whole, masked_next}
 use Rattle.column.proofs.complement.Given as goal
 
 abbrev pub invariant-loop-w : goal.invariant-loop-w

@@ -1,8 +1,7 @@
 -- `column::fill` meets its contract. The invariant: the first w words are filled. Assumes nothing.
 use mathlib.Core.Path.{refl}
-use Prim.Native.Nat.{◌-◌, ◌≤◌}
 use borrow.Author.Rules.{rules}
-use Rattle.column.specs.Column.{Swept, filled}
+use Rattle.column.specs.Column.{filled}
 use Rattle.column.proofs.Sweeps.{swept_none, swept_next, swept_whole}
 use Rattle.column.proofs.fill.Goals as goal
 

@@ -1,9 +1,6 @@
 -- `column::fill` meets its contract. The invariant: the first w words are filled. Assumes nothing.
-use mathlib.Core.Path.{refl}
 use Prim.Native.Nat.{◌-◌, ◌≤◌}
-use borrow.Author.Rules.{rules}
 use Rattle.column.specs.Column.{Swept, filled}
-use Rattle.column.proofs.Sweeps.{swept_none, swept_next, swept_whole}
 use Rattle.column.proofs.fill.Given as goal
 
 abbrev pub invariant-loop-w : goal.invariant-loop-w

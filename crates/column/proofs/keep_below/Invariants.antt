@@ -1,12 +1,7 @@
 -- `column::keep_below` meets its contract. The invariant: the first w words are cut. Assumes nothing.
-use mathlib.Core.Path.{refl}
 use Prim.Native.Nat.{◌-◌, ◌≤◌}
-use native.Mathlib.Omega.{arith}
-use borrow.Author.Rules.{rules}
-use lib.ListN.{length}
 use Rattle.lists.specs.Bits.{below, bit_at}
 use Rattle.column.specs.Column.{Swept, register}
-use Rattle.column.proofs.Sweeps.{swept_none, swept_whole, masked_next}
 use Rattle.column.proofs.keep_below.Given as goal
 
 abbrev pub invariant-loop-w : goal.invariant-loop-w

@@ -1,5 +1,4 @@
 -- `interval::largest` meets its contract: `count_leading_zeros 32` and the top of a number make 31 (`Laws.antt`). Assumes nothing.
-use borrow.Author.Rules.{rules}
 use native.Mathlib.Omega.{arith}
 use Rattle.interval.proofs.Laws.{top_is, top_12}
 use Rattle.interval.proofs.largest.Goals as goal

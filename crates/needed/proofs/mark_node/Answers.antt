@@ -1,6 +1,5 @@
 -- By what the test says. Assumes nothing.
 use mathlib.Core.Path.{sym, ◌∙◌}
-use borrow.Author.Rules.{rules}
 use Rattle.needed.proofs.mark_node.Goals as goal
 
 pub returns-then-is_marked : goal.returns-then-is_marked

@@ -1,5 +1,4 @@
 -- `needed::mark_operand` meets its contract. Assumes nothing.
-use borrow.Author.Rules.{rules}
 use Rattle.needed.proofs.mark_operand.Goals as goal
 
 pub returns-then-used-k : goal.returns-then-used-k

@@ -1,5 +1,5 @@
 -- A loop from the last node to the first. Assumes nothing.
-use Prim.Native.Nat.{◌≤◌, ◌-◌}
+use Prim.Native.Nat.{◌-◌}
 use mathlib.Core.Path.{◌≡◌, sym, ap, ◌∙◌}
 use native.Mathlib.Omega.{arith}
 use lib.ListN.{length, length-take, take}
@@ -8,7 +8,7 @@ use borrow.Author.Rules.{rules}
 use Rattle.table.specs.Nodes.{no_node}
 use Rattle.lists.proofs.Sequences.{length_mapped}
 use Rattle.needed.specs.Code.Steps.{mark_node}
-use Rattle.needed.proofs.Marking.{Marking, marking_start, marking_more, marking_done}
+use Rattle.needed.proofs.Marking.{marking_start, marking_more, marking_done}
 use Rattle.needed.proofs.needed.Goals as goal
 
 pub loop-i-init : goal.loop-i-init

@@ -1,14 +1,8 @@
 -- A loop from the last node to the first. Assumes nothing.
-use Prim.Native.Nat.{◌≤◌, ◌-◌}
-use mathlib.Core.Path.{◌≡◌, sym, ap, ◌∙◌}
-use native.Mathlib.Omega.{arith}
-use lib.ListN.{length, length-take, take}
-use lib.Seq.{get_or-take}
-use borrow.Author.Rules.{rules}
-use Rattle.table.specs.Nodes.{no_node}
-use Rattle.lists.proofs.Sequences.{length_mapped}
-use Rattle.needed.specs.Code.Steps.{mark_node}
-use Rattle.needed.proofs.Marking.{Marking, marking_start, marking_more, marking_done}
+use Prim.Native.Nat.{◌≤◌}
+use mathlib.Core.Path.{◌≡◌}
+use lib.ListN.{length, take}
+use Rattle.needed.proofs.Marking.{Marking}
 use Rattle.needed.proofs.needed.Given as goal
 
 abbrev pub invariant-loop-i : goal.invariant-loop-i

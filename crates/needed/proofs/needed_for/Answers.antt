@@ -1,5 +1,4 @@
 -- `needed::needed_for` meets its contract. Assumes nothing.
-use borrow.Author.Rules.{rules}
 use Rattle.needed.proofs.Marked.{none_for, found_for}
 use Rattle.needed.proofs.needed_for.Goals as goal
 

@@ -1,8 +1,7 @@
 -- `pair::copy_back` meets its contract. The invariant: the first w words of the first register are written. Assumes nothing.
 use Prim.Native.Nat.{◌-◌}
-use borrow.Author.Rules.{rules}
 use Rattle.lists.specs.Bits.{bit_at}
-use Rattle.pair.proofs.Pairs.{Into, first, into_none, into_next, into_done}
+use Rattle.pair.proofs.Pairs.{Into}
 use Rattle.pair.proofs.copy_back.Given as goal
 
 abbrev pub invariant-loop-w : goal.invariant-loop-w

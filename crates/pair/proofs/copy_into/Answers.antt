@@ -1,8 +1,6 @@
 -- `pair::copy_into` meets its contract. The invariant: the first w words of the second register are written. Assumes nothing.
-use Prim.Native.Nat.{◌-◌}
 use borrow.Author.Rules.{rules}
-use Rattle.lists.specs.Bits.{bit_at}
-use Rattle.pair.proofs.Pairs.{Into, second, into_none, into_next, into_done}
+use Rattle.pair.proofs.Pairs.{second, into_none, into_next, into_done}
 use Rattle.pair.proofs.copy_into.Goals as goal
 
 pub loop-w-init : goal.loop-w-init

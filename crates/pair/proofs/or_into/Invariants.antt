@@ -1,10 +1,8 @@
 -- `pair::or_into` meets its contract. The invariant: the first w words of the second register are written. Assumes nothing.
 use mathlib.Core.Bool.{◌||◌}
 use Prim.Native.Nat.{◌-◌}
-use borrow.Author.Rules.{rules}
-use Rattle.column.proofs.Words.{or_words}
 use Rattle.pair.specs.Pair.{both}
-use Rattle.pair.proofs.Pairs.{Into, second, into_none, into_next, into_done}
+use Rattle.pair.proofs.Pairs.{Into}
 use Rattle.pair.proofs.or_into.Given as goal
 
 abbrev pub invariant-loop-w : goal.invariant-loop-w

@@ -1,5 +1,4 @@
 -- A place before `place` lies in the part, and any other past it. Assumes nothing.
-use borrow.Author.Rules.{rules}
 use lib.Seq.{get_or-take}
 use Rattle.lists.proofs.Sequences.{get_or_take_out}
 use Rattle.reach.proofs.near_at.Goals as goal

@@ -1,5 +1,4 @@
 -- By the fields that the kind uses. Assumes nothing.
-use borrow.Author.Rules.{rules}
 use Rattle.reach.proofs.Nears.{near_both, near_one}
 use Rattle.reach.proofs.near_by.Goals as goal
 

@@ -1,7 +1,6 @@
 -- By its operands', and capped. Assumes nothing.
 use native.Mathlib.Omega.{arith}
 use mathlib.Core.Path.{◌≡◌, ap₂, ◌∙◌}
-use borrow.Author.Rules.{rules}
 use lib.ListN.{take}
 use Rattle.reach.specs.Code.Steps.{node_near, near_over}
 use Rattle.reach.proofs.near_over.Goals as goal

@@ -1,5 +1,4 @@
 -- The test that led to each return picks its case. Assumes nothing.
-use borrow.Author.Rules.{rules}
 use borrow.Author.Tests.{lt-ltb, le-ltb}
 use Rattle.reach.proofs.ticks_within.Goals as goal
 

@@ -1,5 +1,4 @@
 -- `signal::digit_of` meets its contract. Assumes nothing.
-use borrow.Author.Rules.{rules}
 use Rattle.lists.proofs.Numbers.{bit_digit}
 use Rattle.signal.proofs.digit_of.Goals as goal
 

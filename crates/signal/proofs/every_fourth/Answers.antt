@@ -1,11 +1,8 @@
 -- `signal::every_fourth` meets its contract. The invariant: x has the first k of the eight bits. Assumes nothing.
-use mathlib.Core.Path.{◌≡◌}
-use Prim.Native.Nat.{◌+◌, ◌-◌, ◌*◌, ◌≤◌}
+use Prim.Native.Nat.{◌+◌}
 use borrow.Author.Rules.{rules}
-use Rattle.lists.specs.Bits.{number}
 use Rattle.lists.proofs.Numbers.{number_none, number_done}
 use Rattle.signal.specs.Signal.{signal_column}
-use Rattle.signal.specs.Code.Steps.{fourths}
 use Rattle.signal.proofs.Signals.{fourths_more}
 use Rattle.signal.proofs.every_fourth.Goals as goal
 

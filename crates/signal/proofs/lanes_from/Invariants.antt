@@ -1,11 +1,9 @@
 -- `signal::lanes_from` meets its contract. The invariant: the first k lanes of each half are made. Assumes nothing.
 use mathlib.Core.Path.{◌≡◌}
 use Prim.Native.Nat.{◌-◌, ◌≤◌}
-use borrow.Author.Rules.{rules}
 use lib.ListN.{length}
 use Rattle.signal.specs.Signal.{signal_column}
 use Rattle.signal.specs.Code.Steps.{Lanes}
-use Rattle.signal.proofs.Signals.{lanes_none, lanes_more, lanes_done}
 use Rattle.signal.proofs.lanes_from.Given as goal
 
 abbrev pub invariant-loop-k : goal.invariant-loop-k

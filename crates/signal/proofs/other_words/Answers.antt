@@ -1,12 +1,8 @@
 -- `signal::other_words` meets its contract. The invariant: the first w of the words are put. Assumes nothing.
 use mathlib.Core.Path.{refl}
-use mathlib.Core.List.{◌++◌}
-use Prim.Native.Nat.{◌+◌, ◌-◌, ◌*◌, ◌≤◌}
 use native.Mathlib.Nat.{le_antisymm}
 use borrow.Author.Rules.{rules}
-use Rattle.column.specs.Column.{Swept}
 use Rattle.column.proofs.Sweeps.{swept_none, swept_more, swept_to}
-use Rattle.signal.specs.Signal.{signal_column}
 use Rattle.signal.proofs.Signals.{word_from}
 use Rattle.signal.proofs.other_words.Goals as goal
 

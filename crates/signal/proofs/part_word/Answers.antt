@@ -1,8 +1,6 @@
 -- `signal::part_word` meets its contract. The invariant: x has the first j bits. Assumes nothing.
-use mathlib.Core.Path.{◌≡◌}
-use Prim.Native.Nat.{◌+◌, ◌-◌, ◌≤◌}
+use Prim.Native.Nat.{◌+◌}
 use borrow.Author.Rules.{rules}
-use Rattle.lists.specs.Bits.{number}
 use Rattle.lists.proofs.Numbers.{number_none, number_more, number_done}
 use Rattle.signal.specs.Signal.{signal_column}
 use Rattle.signal.proofs.part_word.Goals as goal

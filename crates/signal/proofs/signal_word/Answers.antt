@@ -2,7 +2,6 @@
 use mathlib.Core.Path.{refl}
 use mathlib.Core.List.{◌++◌}
 use native.Mathlib.Omega.{arith}
-use borrow.Author.Rules.{rules}
 use Rattle.signal.specs.Signal.{signal_column}
 use Rattle.signal.proofs.Signals.{gathered_word, from_newer}
 use Rattle.signal.proofs.signal_word.Goals as goal

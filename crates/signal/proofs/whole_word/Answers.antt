@@ -1,6 +1,5 @@
 -- `signal::whole_word` meets its contract. Assumes nothing.
 use native.Mathlib.Omega.{arith}
-use borrow.Author.Rules.{rules}
 use Rattle.signal.specs.Signal.{signal_column}
 use Rattle.signal.proofs.Signals.{fourths_both, fourths_all}
 use Rattle.signal.proofs.whole_word.Goals as goal

@@ -1,10 +1,9 @@
 -- `signal::whole_words` meets its contract. The invariant: the first w of the words are put. Assumes nothing.
 use mathlib.Core.Path.{refl, ap}
-use Prim.Native.Nat.{ℕ, ◌+◌, ◌-◌, ◌≤◌}
+use Prim.Native.Nat.{ℕ}
 use native.Mathlib.Nat.{le_antisymm}
 use native.Mathlib.Omega.{arith}
 use borrow.Author.Rules.{rules}
-use Rattle.column.specs.Column.{Swept}
 use Rattle.column.proofs.Sweeps.{swept_none, swept_more, swept_to}
 use Rattle.signal.specs.Signal.{signal_column}
 use Rattle.signal.proofs.Signals.{gathered_word}

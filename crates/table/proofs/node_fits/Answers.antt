@@ -1,6 +1,7 @@
 -- The fields that a kind uses, by its class. Assumes nothing.
 use Rattle.table.proofs.ByKind.{uses_none, uses_plain, uses_timed}
-use Rattle.table.proofs.Soundness.{known_kind, fits_by, fits_unknown}
+use Rattle.table.proofs.Fits.{fits_by}
+use Rattle.table.proofs.Soundness.{known_kind, fits_unknown}
 use Rattle.table.proofs.node_fits.Goals as goal
 
 pub returns-then-k : goal.returns-then-k
