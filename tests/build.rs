@@ -1,4 +1,4 @@
-// Links the static library that `rt staticlib juntreak` writes, and turns the constants of include/juntreak.h into Rust.
+// Links the static library that `bash tools/build` makes, and turns the constants of include/juntreak.h into Rust.
 fn main() {
     let here = std::env::var("CARGO_MANIFEST_DIR").unwrap();
     let lib = format!("{here}/../target/staticlib");
