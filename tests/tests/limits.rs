@@ -105,7 +105,8 @@ fn constants(list: &[(&str, u64)]) -> Constants {
 /// The constants of a Rattle file: `pub const NAME: type = value;`.
 fn rattle(text: &str) -> Constants {
     let mut known = Constants::new();
-    for line in text.lines().filter(|line| !line.is_empty() && !line.starts_with("//")) {
+    let other = |line: &str| line.is_empty() || ["//", "#!["].iter().any(|start| line.starts_with(start));
+    for line in text.lines().filter(|line| !other(line)) {
         let constant = line.strip_prefix("pub const ").and_then(|rest| rest.strip_suffix(';')?.split_once(" = "));
         let (name, value) = constant.unwrap_or_else(|| panic!("no constant: {line}"));
         define(&mut known, name.split(':').next().unwrap(), value);
@@ -129,16 +130,9 @@ fn define(known: &mut Constants, name: &str, text: &str) {
     assert_eq!(known.insert(capitals(name), value), None, "{name} is defined twice");
 }
 
-/// maxNodes is MAX_NODES; a name in capitals stays.
+/// max_nodes is MAX_NODES; a name in capitals stays.
 fn capitals(name: &str) -> String {
-    let mut out = String::new();
-    for c in name.chars() {
-        if c.is_uppercase() && name.starts_with(char::is_lowercase) {
-            out.push('_');
-        }
-        out.extend(c.to_uppercase());
-    }
-    out
+    name.to_uppercase()
 }
 
 /// The value of an expression of numbers, names that are known, sums, products and parentheses.
