@@ -15,10 +15,9 @@ use Rattle.mltl.proofs.Delays.{delay_sooner}
 use Rattle.table.specs.Nodes.{formula_over, formulas}
 use Rattle.book.specs.declared.Entry.{Entry}
 use Rattle.book.specs.declared.Walk.{Walk}
-use Rattle.book.specs.declared.Reading.{Reading}
 use Rattle.book.specs.Entries.{TwoBytes, entry_of, bad_length, bad_head}
 use Rattle.book.specs.Code.Steps.{entered, added, begun}
-use Rattle.book.specs.Reading.{accepted, unless, is_rule_at, nodes_in, rules_in, node_of, nodes, rules, table_of, fault, fault_by, head_fault, finished, along, along_by, reading}
+use Rattle.book.specs.Reading.{Reading, accepted, unless, is_rule_at, nodes_in, rules_in, node_of, nodes, rules, table_of, fault, fault_by, head_fault, finished, along, along_by, reading}
 use Rattle.book.specs.Keeps.{Size, Head, Linked, KeptBy, AlongBy, over, on, KeepsBy, Kept, Along, Keeps, StaysKept}
 use Rattle.book.proofs.Tests.{Sized, head_clear}
 use Rattle.book.proofs.Among.{collect_length}

@@ -7,9 +7,8 @@ use native.Mathlib.Omega.{arith}
 use borrow.Author.Tests.{eqb-true, eq-eqb, ne_eqb}
 use lib.Dec.{eqb}
 use Rattle.lists.specs.Choice.{pick}
-use Rattle.book.specs.declared.Reading.{Reading}
 use Rattle.book.specs.Entries.{Naming, entry_of}
-use Rattle.book.specs.Reading.{fault_by, head_fault, refused, unless, finished_by, along_by, reading_by}
+use Rattle.book.specs.Reading.{Reading, fault_by, head_fault, refused, unless, finished_by, along_by, reading_by}
 
 -- what is accepted has no fault
 pub none : (n r : ℕ) (x : Reading) → (unless n r x).number ≡ 0 → n ≡ 0

@@ -14,12 +14,10 @@ use Rattle.lists.proofs.Tests.{true_or_false}
 use Rattle.table.specs.Sound.{Sound, is_sound}
 use Rattle.table.specs.declared.Table.{Table}
 use Rattle.table.proofs.Soundness.{sound_iff}
-use Rattle.book.specs.declared.Reading.{Reading}
-use Rattle.book.specs.declared.Writing.{Writing}
 use Rattle.book.specs.Entries.{Bytes, entry_of}
-use Rattle.book.specs.Reading.{reading, accepted}
+use Rattle.book.specs.Reading.{Reading, reading, accepted}
 use Rattle.book.specs.Keeps.{Along}
-use Rattle.book.specs.Writing.{many, book_of, book_length, write_rows, write_number, writing, written_into}
+use Rattle.book.specs.Writing.{Writing, many, book_of, book_length, write_rows, write_number, writing, written_into}
 use Rattle.book.specs.Back.{book_in, Back, Relied}
 use Rattle.book.proofs.Accepts.{accepted_keeps, keeps_accepted}
 use Rattle.book.proofs.Sound.{accepted_sound}

@@ -14,9 +14,8 @@ use Rattle.lists.specs.Sequence.{padded}
 use Rattle.table.specs.Nodes.{no_node, no_rule}
 use Rattle.table.specs.declared.Rule.{Rule}
 use Rattle.book.specs.declared.Entry.{Entry}
-use Rattle.book.specs.declared.Reading.{Reading}
 use Rattle.book.specs.Entries.{Naming, TwoBytes, entry_of, is_node, is_rule, name_of, bad_length, bad_head}
-use Rattle.book.specs.Reading.{filter, is_node_at, is_rule_at, nodes_in, rules_in, node_of, rule_of, collect, nodes, rules, link_fault, rows, fault, fault_by, head_fault, refused, accepted, unless, finished, finished_by, along_by, reading, reading_by}
+use Rattle.book.specs.Reading.{Reading, filter, is_node_at, is_rule_at, nodes_in, rules_in, node_of, rule_of, collect, nodes, rules, link_fault, rows, fault, fault_by, head_fault, refused, accepted, unless, finished, finished_by, along_by, reading, reading_by}
 use Rattle.book.specs.Chain.{OnChain, head, next, ReadBy, start, linked, then, Read, SameRecord, SameChain, SameRead}
 use Rattle.book.proofs.Stands.{node_within, rule_within, names_of}
 

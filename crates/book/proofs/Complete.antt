@@ -24,9 +24,8 @@ use Rattle.table.proofs.Delays.{formula_at_lem}
 use Rattle.table.proofs.Soundness.{field_below}
 use Rattle.builder.proofs.Sound.{uses_arg}
 use Rattle.book.specs.declared.Entry.{Entry}
-use Rattle.book.specs.declared.Reading.{Reading}
 use Rattle.book.specs.Entries.{Bytes, entry_of, is_node, is_rule, name_of, uses_in}
-use Rattle.book.specs.Reading.{is_node_at, is_rule_at, nodes_in, rules_in, node_of, rule_of, nodes, rules, table_of, accepted, reading}
+use Rattle.book.specs.Reading.{Reading, is_node_at, is_rule_at, nodes_in, rules_in, node_of, rule_of, nodes, rules, table_of, accepted, reading}
 use Rattle.book.specs.Keeps.{Head, Linked, Kept, Along, over, on, Keeps}
 use Rattle.book.specs.Writing.{bytes, plain_entry, head_entry, node_entry, rule_entry, many, link_after, entry_for, book_of, Yielded}
 use Rattle.book.proofs.Tests.{node_no_rule, node_uses}

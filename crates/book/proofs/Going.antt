@@ -9,22 +9,25 @@ use borrow.Author.Tests.{ne_eqb, eq-eqb}
 use lib.Dec.{eqb}
 use lib.ListN.{length, get_or, set, length-set}
 use lib.Seq.{get_or-set_same}
+use Rattle.refusals.specs.Refusals.{number_of}
+use Rattle.refusals.specs.declared.Refusal.{Refusal}
+use Rattle.refusals.proofs.Positive.{refuses}
 use Rattle.lists.specs.Choice.{pick}
 use Rattle.lists.specs.Sequence.{among}
 use Rattle.limits.specs.Limits.{max_name}
 use Rattle.book.specs.declared.Entry.{Entry}
 use Rattle.book.specs.declared.Walk.{Walk}
-use Rattle.book.specs.declared.Tried.{Tried}
-use Rattle.book.specs.declared.Reading.{Reading}
+use Rattle.std.specs.Prelude.{Ok, Err}
 use Rattle.book.specs.Entries.{TwoBytes, entry_of, is_node, name_of}
 use Rattle.book.specs.Code.Steps.{seen_at, entered, node_added, rule_added, added, walk_fault, stepped, begun, walk_ended}
-use Rattle.book.specs.Reading.{refused, rows, fault, fault_by, head_fault, along, reading, reading_by}
+use Rattle.book.specs.Reading.{Reading, refused, rows, fault, fault_by, head_fault, along, reading, reading_by}
 use Rattle.book.specs.Keeps.{Linked}
 use Rattle.lists.proofs.Rows.{no_row}
 use Rattle.book.proofs.Tests.{Sized, HeadClear, head_clear, head_kind}
 use Rattle.book.proofs.Among.{not_among}
 use Rattle.book.proofs.Kept.{next_is}
 use Rattle.book.proofs.Along.{reading_begins, along_ends, along_stops, along_goes}
+use Rattle.book.proofs.Steps.{err_answer, ok_answer}
 use Rattle.book.proofs.Stands.{Stands, fault_same, added_stands, new_seen, begun_stands, ended_same}
 
 -- how many records are not passed
@@ -121,45 +124,43 @@ pub record Going (s : List ℕ) (w : Walk) (r : ℕ) : Type 0 where
   pub at : At s fuel before w r
   pub same : along s fuel before r ≡ reading s
 
-pub begins : (s : List ℕ) {f : ℕ} {w : Walk} {e : Entry} → f ≡ head_fault s → f ≡ 0 → w ≡ begun → e ≡ entry_of s 0 → Going s w e.next
-begins s p q i j =
-    let h : head_fault s ≡ 0 = sym p ∙ q in
+pub begins : (s : List ℕ) {w : Walk} {e : Entry} → head_fault s ≡ 0 → w ≡ begun → e ≡ entry_of s 0 → Going s w e.next
+begins s h i j =
     rw (i, j) (record { before = 0 ∷ []; fuel = 255; at = starts s (head_clear s h); same = reading_begins TwoBytes s h })
 
-pub head_stops : (s : List ℕ) {f : ℕ} {x : Reading} → f ≡ head_fault s → ¬ (f ≡ 0) → x ≡ refused f 0 → x ≡ reading s
+pub head_stops : (s : List ℕ) (f : Refusal) → number_of f ≡ head_fault s → refused (number_of f) 0 ≡ reading s
 unfolding reading_by
-head_stops s p q i = rw (i, p, ne_eqb (head_fault s) 0 (λ z. q (p ∙ z)))
+head_stops s f k = rw (← k, refuses f)
 
 module _ {s : List ℕ} {w : Walk} {r : ℕ} (g : Going s w r) where
   pub ends : {x : Reading} → r ≡ 0 → x ≡ walk_ended w → x ≡ reading s
   ends z i = i ∙ ended_same g.at.stands ∙ sym (along_ends TwoBytes s g.before r g.fuel z) ∙ g.same
 
   -- the record r is tried; its name is small enough
-  module _ (z : ¬ (r ≡ 0)) {v : Walk} {e : Entry} {x : Tried} (i : v ≡ entered w r) (j : e ≡ entry_of s r) (b : name_of e ≤ max_name) (k : x ≡ stepped (length s) v r e) where
-    found : x.number ≡ fault s g.before r
-    found = ap (λ (y : Tried). y.number) k ∙ rw (i, j) (fault_is g.at z (subst (λ (y : Entry). name_of y ≤ max_name) j b))
+  module _ (z : ¬ (r ≡ 0)) {v : Walk} {e : Entry} (i : v ≡ entered w r) (j : e ≡ entry_of s r) (b : name_of e ≤ max_name) where
+    found : walk_fault (length s) v e ≡ fault s g.before r
+    found = rw (i, j) (fault_is g.at z (subst (λ (y : Entry). name_of y ≤ max_name) j b))
 
-    pub stops : {y : Reading} → ¬ (x.number ≡ 0) → y ≡ refused x.number r → y ≡ reading s
-    stops q y =
-        y ∙ ap (λ (n : ℕ). refused n r) found
-        ∙ sym (along_stops TwoBytes s g.before r g.fuel (fuelled g.at z) z (λ n. q (found ∙ n))) ∙ g.same
+    pub stops : {n : ℕ} → Err n ≡ stepped (length s) v r e → refused n r ≡ reading s
+    stops k =
+        let h = err_answer _ k in
+        ap (λ (n : ℕ). refused n r) (h.0 ∙ found)
+        ∙ sym (along_stops TwoBytes s g.before r g.fuel (fuelled g.at z) z (λ n. h.1 (found ∙ n))) ∙ g.same
 
-    module _ (q : x.number ≡ 0) where
-      next_state : x.walk ≡ added (entered w r) r (entry_of s r)
+    module _ {x : Walk} (k : Ok x ≡ stepped (length s) v r e) where
+      next_state : x ≡ added (entered w r) r (entry_of s r)
       next_state =
-          let h : walk_fault (length s) v e ≡ 0 = sym (ap (λ (y : Tried). y.number) k) ∙ q in
-          let a : (stepped (length s) v r e).walk ≡ added v r e = rw h in
           let b : added v r e ≡ added (entered w r) r (entry_of s r) = rw (i, j) in
-          ap (λ (y : Tried). y.walk) k ∙ a ∙ b
+          (ok_answer _ k).0 ∙ b
 
-      pub less : unseen x.walk.seen < unseen w.seen
+      pub less : unseen x.seen < unseen w.seen
       less = rw next_state (omega (arith, one_less g.at z))
 
-      pub turns : Going s x.walk e.next
+      pub turns : Going s x e.next
       turns = rw (next_state, j) (go g.fuel g.at g.same)
         where
           go : (f : ℕ) → At s f g.before w r → along s f g.before r ≡ reading s → Going s (added (entered w r) r (entry_of s r)) (entry_of s r).next
           go zero a m = absurd (omega (arith, fuelled a z))
           go (suc f) a m =
-              let c : fault s g.before r ≡ 0 = sym found ∙ q in
+              let c : fault s g.before r ≡ 0 = sym found ∙ (ok_answer _ k).1 in
               record { before = g.before ++ (r ∷ []); fuel = f; at = further a z c; same = sym (along_goes TwoBytes s g.before r f z c) ∙ m }

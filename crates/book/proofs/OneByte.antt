@@ -19,9 +19,8 @@ use Rattle.table.specs.declared.Table.{Table}
 use Rattle.table.specs.declared.Uses.{Uses}
 use Rattle.book.specs.declared.Entry.{Entry}
 use Rattle.book.specs.declared.Walk.{Walk}
-use Rattle.book.specs.declared.Reading.{Reading}
 use Rattle.book.specs.Entries.{OneByte, TwoBytes, Bytes, entry_of, uses_in, is_rule, name_by, name_of, formed_by, bad_form_by, bad_arg_by}
-use Rattle.book.specs.Reading.{place, is_rule_at, nodes_in, rules_in, rule_of_by, rules_by, rules, table_of, name_fault_by, rows_by, rows, fault_by, fault, head_fault, refused, accepted, finished_by, along_by, reading_by, reading}
+use Rattle.book.specs.Reading.{Reading, place, is_rule_at, nodes_in, rules_in, rule_of_by, rules_by, rules, table_of, name_fault_by, rows_by, rows, fault_by, fault, head_fault, refused, accepted, finished_by, along_by, reading_by, reading}
 use Rattle.book.specs.Keeps.{Kept, Along, over, on, Keeps}
 use Rattle.book.specs.Chain.{OnChain, head, next, ReadBy, start, linked, then}
 use Rattle.book.specs.Code.Steps.{entered, added, begun}

@@ -19,9 +19,8 @@ use Rattle.table.specs.declared.Uses.{Uses}
 use Rattle.builder.proofs.Holding.{names}
 use Rattle.builder.proofs.Sound.{Good, good_none, good_node, good_rule, good_sound, uses_arg}
 use Rattle.book.specs.declared.Entry.{Entry}
-use Rattle.book.specs.declared.Reading.{Reading}
 use Rattle.book.specs.Entries.{TwoBytes, Bytes, entry_of, name_of}
-use Rattle.book.specs.Reading.{place, is_node_at, is_rule_at, nodes_in, node_of, rule_of, nodes, rules, table_of, rows, fault, head_fault, refused, accepted, unless, finished, along, along_by, reading, reading_by}
+use Rattle.book.specs.Reading.{Reading, place, is_node_at, is_rule_at, nodes_in, node_of, rule_of, nodes, rules, table_of, rows, fault, head_fault, refused, accepted, unless, finished, along, along_by, reading, reading_by}
 use Rattle.book.specs.Keeps.{Head, Kept, EarlierNode, Along, over, on}
 use Rattle.book.proofs.Tests.{other_kind, node_no_rule, node_uses, rule_uses}
 use Rattle.book.proofs.Among.{among_filter, collect_in, collect_out, collect_length, index_lt}

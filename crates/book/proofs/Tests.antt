@@ -1,20 +1,18 @@
 -- Tests of records: the length of a book, and what the code's parts put together. Assumes nothing.
-use Prim.Native.Nat.{ℕ, ◌*◌, ◌%◌, ◌≤◌}
+use Prim.Native.Nat.{ℕ, ◌%◌, ◌≤◌}
 use native.Mathlib.Omega.{arith}
 use mathlib.Core.Path.{◌≡◌, refl}
-use mathlib.Core.Bool.{Bool, true, false, ◌&&◌, ◌||◌, not}
+use mathlib.Core.Bool.{Bool, true, false, ◌&&◌, ◌||◌}
 use mathlib.Core.List.{List, [], ◌∷◌}
 use borrow.Author.Tests.{eqb-true, leb-true, leb-false, le-leb, eq-eqb, ne_eqb, not-false}
-use lib.Dec.{ltb, leb, eqb}
+use lib.Dec.{leb, eqb}
 use lib.ListN.{length}
 use Rattle.lists.proofs.Tests.{true_left, true_right, and_right}
 use Rattle.lists.proofs.Rows.{no_row}
 use Rattle.table.specs.Nodes.{op_of, uses, uses_of}
 use Rattle.book.specs.declared.Entry.{Entry}
-use Rattle.book.specs.declared.Walk.{Walk}
 use Rattle.book.specs.Entries.{entry_of, uses_in, is_node, is_rule, bad_length, bad_head}
 use Rattle.book.specs.Reading.{head_rows, link_fault, head_fault}
-use Rattle.book.specs.Code.Steps.{seen_at, bad_link}
 
 -- ---- tests from their parts
 pub neither : {a b : Bool} → a ≡ false → b ≡ false → (a || b) ≡ false
@@ -79,6 +77,3 @@ unfolding uses_in
 rule_uses k h = rw (eq-eqb k 11 h)
 
 -- ---- a link, by what is seen of the record that it leads to
-pub link_is : (n : ℕ) (w : Walk) (e : Entry) {v : ℕ} → v ≡ seen_at w e.next
-    → (not (eqb e.next 0) && (leb n (12 * e.next) || ltb 0 v)) ≡ bad_link n w e
-link_is n w e p = rw p

@@ -11,15 +11,15 @@ use lib.ListN.{length, take, drop}
 use lib.Seq.{take_at}
 use Rattle.lists.specs.Choice.{pick}
 use Rattle.lists.specs.Sequence.{ticks}
-use Rattle.lists.proofs.Loops.{Copied, copied_done}
+use borrow.Rule.Slice.PartMut.{put_mid}
+use Rattle.std.proofs.lemmas.Slice.{put_mid-paste}
 use Rattle.lists.proofs.Sequences.{length_ticks, ticks_snoc, drop_past, length_past}
 use Rattle.table.specs.Nodes.{node_at, rule_at}
 use Rattle.table.specs.Sound.{Sound, is_sound}
 use Rattle.table.specs.declared.Table.{Table}
 use Rattle.table.proofs.Soundness.{field_below}
 use Rattle.book.specs.declared.Entry.{Entry}
-use Rattle.book.specs.declared.Writing.{Writing}
-use Rattle.book.specs.Writing.{bytes_of, bytes, head_entry, node_entry, rule_entry, many, link_after, entry_for, book_of, book_length, writing, written_into}
+use Rattle.book.specs.Writing.{Writing, bytes_of, bytes, head_entry, node_entry, rule_entry, many, link_after, entry_for, book_of, book_length, writing, written_into}
 use Rattle.book.proofs.Records.{length_bytes}
 
 -- ---- the record k
@@ -57,11 +57,10 @@ operands_small t z p h =
 pub watched_small : (t : Table) → Sound t → (q : ℕ) → q < t.rule_count → (rule_at t q).watched < 64
 watched_small t z q h = omega (arith, (z.rule q h).watched, z.few_nodes)
 
--- ---- the bytes of a record, all copied
-pub entry_copied : {xs out b : List ℕ} (at : ℕ) (e : Entry) (j : ℕ) → b ≡ bytes_of e [] → j ≡ 12 → Copied xs at b out j → out ≡ take at xs ++ bytes_of e (drop (at + 12) xs)
-entry_copied {xs} {out} {b} at e j same k c =
-    copied_done xs at b j c (omega (arith, ap length same)) ∙ ap (λ (n : ℕ). take at xs ++ b ++ drop (at + n) xs) k
-    ∙ ap (λ (l : List ℕ). take at xs ++ l ++ drop (at + 12) xs) same ∙ append_assoc (take at xs) (bytes_of e []) (drop (at + 12) xs)
+-- ---- the bytes of a record, over a part of the output
+pub entry_put : (xs : List ℕ) {b : List ℕ} (at : ℕ) (e : Entry) → b ≡ bytes_of e [] → put_mid at (at + 12 - at) xs b ≡ take at xs ++ bytes_of e (drop (at + 12) xs)
+entry_put xs {b} at e same =
+    put_mid-paste at (at + 12 - at) xs b (bytes_of e []) 12 same (omega arith) refl ∙ append_assoc (take at xs) (bytes_of e []) (drop (at + 12) xs)
 
 -- ---- the loop over the records: the first k records stand where they should, and behind them what stood there
 bytes_snoc : (es : List Entry) (e : Entry) (s : List ℕ) → bytes (es ++ (e ∷ [])) ++ s ≡ bytes es ++ bytes_of e s

@@ -6,9 +6,8 @@ use Rattle.refusals.specs.Numbers.{FORM}
 use Rattle.table.specs.Nodes.{rule_at}
 use Rattle.table.specs.Sound.{Sound}
 use Rattle.table.specs.declared.Table.{Table}
-use Rattle.book.specs.declared.Reading.{Reading}
 use Rattle.book.specs.Entries.{OneByte, Bytes, entry_of, name_of}
-use Rattle.book.specs.Reading.{link_fault, refused, reading_by, reading}
+use Rattle.book.specs.Reading.{Reading, link_fault, refused, reading_by, reading}
 use Rattle.book.specs.Keeps.{Keeps}
 use Rattle.book.specs.Chain.{OnChain, ReadBy}
 use Rattle.book.specs.Writing.{YieldedBy}

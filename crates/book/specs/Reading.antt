@@ -1,9 +1,10 @@
 -- What reading a book yields (document 01, The book and Refusals 1 to 11). The records of the chain are read one after the other. What
 -- is known at a record are the book s and the records `before` on the chain, the head first; a record is its number. `names` says how a
 -- rule's name is written; without it, in two bytes.
-use Rattle.std.specs.Prelude.{ℕ, zero, suc, ◌+◌, ◌*◌, Bool, ◌&&◌, ◌||◌, not, List, [], ◌∷◌, ◌++◌, map, length, ltb, leb, eqb}
+use Rattle.std.specs.Prelude.{ℕ, zero, suc, ◌+◌, ◌*◌, Bool, ◌&&◌, ◌||◌, not, List, [], ◌∷◌, ◌++◌, map, length, ltb, leb, eqb, Result, Ok, Err}
 use Rattle.limits.specs.Limits.{max_nodes, max_rules, max_delay, record_bytes, max_records}
 use Rattle.refusals.specs.Numbers.{LENGTH, HEAD, LINK, FORM, ARGUMENT, INTERVAL, OPERAND, FULL, LONG, NAME, RULELESS}
+use Rattle.refusals.specs.Refusals.{number_of}
 use Rattle.lists.specs.Choice.{Row, pick, ◌if◌, first}
 use Rattle.lists.specs.Sequence.{among, padded}
 use Rattle.interval.specs.Parts.{bad_interval}
@@ -12,7 +13,7 @@ use Rattle.table.specs.declared.Node.{Node}
 use Rattle.table.specs.declared.Rule.{Rule}
 use Rattle.table.specs.declared.Table.{Table}
 use Rattle.book.specs.declared.Entry.{Entry}
-use Rattle.book.specs.declared.Reading.{Reading}
+use Rattle.book.specs.declared.Fault.{Fault}
 use Rattle.book.specs.Entries.{Naming, TwoBytes, entry_of, uses_in, is_node, is_rule, name_by, bad_form_by, bad_arg_by, bad_length, bad_head}
 
 -- ---- the records that are nodes, and those that are rules
@@ -134,12 +135,22 @@ fault s before r = fault_by TwoBytes s before r
 unfoldable pub head_fault : List ℕ → ℕ
 head_fault s = first (head_rows s)
 
--- ---- reading
+-- ---- reading: the number of the refusal, the record that it is about and no table, or 0, 0 and the table
+pub record Reading : Type 0 where
+  pub number : ℕ
+  pub «record» : ℕ
+  pub table : Table
+
 abbrev pub refused : ℕ → ℕ → Reading
 refused n r = record { number = n; «record» = r; table = no_table }
 
 abbrev pub accepted : Table → Reading
 accepted t = record { number = 0; «record» = 0; table = t }
+
+-- what an answer of the code says
+abbrev pub reading_told : Result Table Fault → Reading
+reading_told (Ok t) = accepted t
+reading_told (Err f) = refused (number_of f.refusal) f.«record»
 
 -- the refusal n at the record r, or, where n is 0, what else there is
 abbrev pub unless : ℕ → ℕ → Reading → Reading

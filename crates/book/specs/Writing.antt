@@ -1,8 +1,10 @@
 -- The book of a table (document 02, A3): the head, then the nodes, then the rules, each linked to the one after it; and what writing it answers and
 -- leaves in an output.
-use Rattle.std.specs.Prelude.{ℕ, suc, ◌+◌, ◌-◌, ◌*◌, ◌/◌, ◌%◌, ◌≡◌, not, List, [], ◌∷◌, ◌++◌, ltb, leb, eqb, length, drop}
+use Rattle.std.specs.Prelude.{ℕ, suc, ◌+◌, ◌-◌, ◌*◌, ◌/◌, ◌%◌, ◌≡◌, not, List, [], ◌∷◌, ◌++◌, ltb, leb, eqb, length, drop, Result, Ok, Err}
 use Rattle.limits.specs.Limits.{record_bytes}
 use Rattle.refusals.specs.Numbers.{UNSOUND, OUTPUT}
+use Rattle.refusals.specs.Refusals.{number_of}
+use Rattle.refusals.specs.declared.Refusal.{Refusal}
 use Rattle.lists.specs.Choice.{Row, pick, ◌if◌, first}
 use Rattle.lists.specs.Sequence.{ticks}
 use Rattle.table.specs.Nodes.{node_at, rule_at}
@@ -11,7 +13,6 @@ use Rattle.table.specs.declared.Rule.{Rule}
 use Rattle.table.specs.declared.Table.{Table}
 use Rattle.table.specs.Sound.{is_sound}
 use Rattle.book.specs.declared.Entry.{Entry}
-use Rattle.book.specs.declared.Writing.{Writing}
 use Rattle.book.specs.Entries.{Naming, TwoBytes, Bytes, uses_in}
 use Rattle.book.specs.Reading.{reading_by, accepted}
 
@@ -87,6 +88,16 @@ write_rows t n = (UNSOUND if not (is_sound t)) ∷ (OUTPUT if ltb n (book_length
 
 abbrev pub write_number : Table → ℕ → ℕ
 write_number t n = first (write_rows t n)
+
+-- an answer: the number of the refusal and 0, or 0 and the length of the book in bytes
+pub record Writing : Type 0 where
+  pub number : ℕ
+  pub length : ℕ
+
+-- what an answer of the code says
+abbrev pub writing_told : Result ℕ Refusal → Writing
+writing_told (Ok n) = record { number = 0; length = n }
+writing_told (Err e) = record { number = number_of e; length = 0 }
 
 -- the number, and where it is 0 the length of the book
 unfoldable pub writing : Table → ℕ → Writing

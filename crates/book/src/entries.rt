@@ -12,20 +12,18 @@ fn pair_at(s: &[u8], at: usize) -> u16
     requires { at + 2 ≤ length s.now }
     ensures { result ≡ pair_at s.now at }
 {
-    lists::pair_of(s[at], s[at + 1])
+    u16::from_le_bytes([s[at], s[at + 1]])
 }
 
 fn entry_from(s: &[u8], at: usize) -> Entry
     requires { at + record_bytes ≤ length s.now }
     ensures { result ≡ entry_from s.now at }
 {
-    let lo = pair_at(s, at + 2);
-    let hi = pair_at(s, at + 4);
     Entry {
         kind: s[at],
         arg: s[at + 1],
-        lo,
-        hi,
+        lo: pair_at(s, at + 2),
+        hi: pair_at(s, at + 4),
         left: s[at + 6],
         right: s[at + 7],
         next: s[at + 8],
@@ -43,6 +41,7 @@ pub(crate) fn entry_of(s: &[u8], r: u8) -> Entry
 }
 
 // The fields that a kind uses.
+#[tactic(auto, unfolding(crate::specs::Entries::uses_in))]
 pub(crate) fn uses_in(kind: u8) -> Uses
     ensures { result ≡ uses_in kind }
 {
@@ -60,7 +59,7 @@ pub(crate) fn uses_in(kind: u8) -> Uses
 pub(crate) fn is_node(k: u8) -> bool
     ensures { result ≡ is_node k }
 {
-    (1 <= k) & (k <= 10)
+    (1..=10).contains(&k)
 }
 
 fn formed_by(used: Uses, upper: bool, e: Entry) -> bool
@@ -87,25 +86,20 @@ pub(crate) fn bad_form(e: Entry) -> bool
 pub(crate) fn name_of(e: Entry) -> u16
     ensures { result ≡ name_of e }
 {
-    lists::pair_of(e.arg, e.upper)
+    u16::from_le_bytes([e.arg, e.upper])
 }
 
 pub(crate) fn bad_length(n: usize) -> bool
     ensures { result ≡ bad_length n }
 {
-    !((n % RECORD_BYTES == 0) & (RECORD_BYTES <= n) & (n <= BOOK_BYTES))
+    n % RECORD_BYTES != 0 || !(RECORD_BYTES..=BOOK_BYTES).contains(&n)
 }
 
 pub(crate) fn bad_head(e: Entry) -> bool
     ensures { result ≡ bad_head e }
 {
-    !((e.kind == 0)
-        & (e.arg == 0)
-        & (e.lo == 0)
-        & (e.hi == 0)
-        & (e.left == 0)
-        & (e.right == 0)
-        & (e.upper == 0)
-        & (e.tail0 == 0)
-        & (e.tail1 == 0))
+    e != Entry {
+        next: e.next,
+        ..Entry::default()
+    }
 }

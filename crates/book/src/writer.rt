@@ -3,7 +3,7 @@ ghost use Rattle.std.specs.Prelude.{◌≡◌, ◌+◌, ◌≤◌, ◌<◌, [], 
 ghost use Rattle.limits.specs.Limits.{max_nodes, record_bytes};
 ghost use Rattle.lists.specs.Choice.{pick};
 ghost use Rattle.table.specs.Sound.{Sound};
-ghost use Rattle.book.specs.Writing.{bytes_of, plain_entry, node_entry, rule_entry, many, entry_for, book_of, book_length};
+ghost use Rattle.book.specs.Writing.{bytes_of, plain_entry, node_entry, rule_entry, many, link_after, entry_for, book_of, book_length};
 
 use crate::{Entry, entries};
 use limits::RECORD_BYTES;
@@ -13,17 +13,14 @@ use table::{Node, Rule, Table};
 fn plain_entry(kind: u8, name: u16, left: u8, next: u8) -> Entry
     ensures { result ≡ plain_entry kind name left next }
 {
+    let [arg, upper] = name.to_le_bytes();
     Entry {
         kind,
         next,
-        arg: (name % 256) as u8,
-        lo: 0,
-        hi: 0,
+        arg,
         left,
-        right: 0,
-        upper: (name / 256) as u8,
-        tail0: 0,
-        tail1: 0,
+        upper,
+        ..Entry::default()
     }
 }
 
@@ -32,7 +29,7 @@ fn operand(used: bool, place: u8) -> u8
     requires { place < max_nodes }
     ensures { result ≡ pick used (place + 1) 0 }
 {
-    lists::either(used, place + 1, 0)
+    if used { place + 1 } else { 0 }
 }
 
 fn node_entry(n: Node, next: u8) -> Entry
@@ -40,19 +37,15 @@ fn node_entry(n: Node, next: u8) -> Entry
     ensures { result ≡ node_entry n next }
 {
     let used = entries::uses_in(n.kind);
-    let left = operand(used.left, n.left);
-    let right = operand(used.right, n.right);
     Entry {
         kind: n.kind,
         next,
         arg: n.arg,
         lo: n.lo,
         hi: n.hi,
-        left,
-        right,
-        upper: 0,
-        tail0: 0,
-        tail1: 0,
+        left: operand(used.left, n.left),
+        right: operand(used.right, n.right),
+        ..Entry::default()
     }
 }
 
@@ -63,12 +56,24 @@ fn rule_entry(r: Rule, next: u8) -> Entry
     plain_entry(11, r.name, r.watched + 1, next)
 }
 
+// The record after k, or 0 after the last.
+fn link_after(t: Table, k: usize) -> u8
+    requires { Sound t × (k ≤ many t) }
+    ensures { result ≡ link_after t k }
+{
+    if k < t.node_count + t.rule_count {
+        (k + 1) as u8
+    } else {
+        0
+    }
+}
+
 // The record k: the head, a node or a rule, linked to the record after it.
 fn entry_for(t: Table, k: usize) -> Entry
     requires { Sound t × (k ≤ many t) }
     ensures { result ≡ entry_for t k }
 {
-    let next = lists::either(k < t.node_count + t.rule_count, (k + 1) as u8, 0);
+    let next = link_after(t, k);
     if k == 0 {
         return plain_entry(0, 0, 0, next);
     }
@@ -81,18 +86,10 @@ fn entry_for(t: Table, k: usize) -> Entry
 fn bytes_of(e: Entry) -> [u8; RECORD_BYTES]
     ensures { result ≡ bytes_of e [] }
 {
+    let [lo_low, lo_high] = e.lo.to_le_bytes();
+    let [hi_low, hi_high] = e.hi.to_le_bytes();
     [
-        e.kind,
-        e.arg,
-        (e.lo % 256) as u8,
-        (e.lo / 256) as u8,
-        (e.hi % 256) as u8,
-        (e.hi / 256) as u8,
-        e.left,
-        e.right,
-        e.next,
-        e.upper,
-        e.tail0,
+        e.kind, e.arg, lo_low, lo_high, hi_low, hi_high, e.left, e.right, e.next, e.upper, e.tail0,
         e.tail1,
     ]
 }
@@ -102,10 +99,7 @@ fn put_entry(out: &mut [u8], at: usize, e: Entry)
     requires { at + record_bytes ≤ length out.old }
     ensures { out.new ≡ take at out.old ++ bytes_of e (drop (at + record_bytes) out.old) }
 {
-    let bytes = bytes_of(e);
-    for j in 0..RECORD_BYTES {
-        out[at + j] = bytes[j];
-    }
+    out[at..at + RECORD_BYTES].copy_from_slice(&bytes_of(e));
 }
 
 // The records one after the other, over the first places of an output that has room for them.
@@ -114,6 +108,7 @@ pub(crate) fn put_records(t: Table, out: &mut [u8])
     ensures { out.new ≡ book_of t ++ drop (book_length t) out.old }
 {
     let n = 1 + t.node_count + t.rule_count;
+    // k is the number of the record.
     for k in 0..n {
         let e = entry_for(t, k);
         put_entry(out, RECORD_BYTES * k, e);

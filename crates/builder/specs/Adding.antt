@@ -1,8 +1,10 @@
 -- What adding a node or a rule to a table answers (document 01, Refusals 5 to 10): the first row that fits and the table as it came, or
 -- 0 and the table with it in the first free place.
-use Rattle.std.specs.Prelude.{ℕ, ◌+◌, Bool, ◌&&◌, ◌||◌, not, List, [], ◌∷◌, set, ltb, leb, eqb}
+use Rattle.std.specs.Prelude.{ℕ, ◌+◌, Bool, ◌&&◌, ◌||◌, not, List, [], ◌∷◌, set, ltb, leb, eqb, Result, Ok, Err}
 use Rattle.limits.specs.Limits.{max_nodes, max_rules, max_signal, max_name, max_delay}
 use Rattle.refusals.specs.Numbers.{ARGUMENT, INTERVAL, OPERAND, FULL, LONG, NAME}
+use Rattle.refusals.specs.Refusals.{number_of}
+use Rattle.refusals.specs.declared.Refusal.{Refusal}
 use Rattle.lists.specs.Choice.{Row, pick, ◌if◌, first}
 use Rattle.lists.specs.Sequence.{every}
 use Rattle.interval.specs.Parts.{bad_interval}
@@ -11,7 +13,6 @@ use Rattle.table.specs.Sound.{differs}
 use Rattle.table.specs.declared.Node.{Node}
 use Rattle.table.specs.declared.Rule.{Rule}
 use Rattle.table.specs.declared.Table.{Table}
-use Rattle.builder.specs.declared.Added.{Added}
 
 -- ---- the tests of a node, each true where it is to be refused
 -- a signal above the largest
@@ -75,7 +76,16 @@ with_rule t r = record {
   rule_count = t.rule_count + 1;
 }
 
--- ---- the answer
+-- ---- the answer: the number of a refusal and the table as it came, or 0 and the table with the node or the rule added
+pub record Added : Type 0 where
+  pub number : ℕ
+  pub table : Table
+
+-- what an answer of the code says about the table t
+abbrev pub added_told : Table → Result Table Refusal → Added
+added_told t (Ok longer) = record { number = 0; table = longer }
+added_told t (Err e) = record { number = number_of e; table = t }
+
 abbrev pub added_by : ℕ → Table → Table → Added
 added_by number t longer = record { number = number; table = pick (eqb number 0) longer t }
 

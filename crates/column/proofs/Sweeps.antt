@@ -1,22 +1,21 @@
 -- Sweeps: a register's words are written one by one, from the first on. Assumes nothing.
 use mathlib.Core.Path.{◌≡◌, refl, sym, ap, ◌∙◌, subst}
 use mathlib.Core.Logic.{◌⊎◌, inr, ⊎_elim}
-use mathlib.Core.Bool.{Bool, false, ◌&&◌}
+use mathlib.Core.Bool.{Bool, false}
 use mathlib.Core.List.{List}
 use Prim.Native.Nat.{ℕ, zero, suc, ◌+◌, ◌-◌, ◌*◌, ◌/◌, ◌^◌, ◌≤◌, ◌<◌}
 use native.Mathlib.Nat.{zero-add, le_antisymm}
 use native.Mathlib.Omega.{arith}
-use lib.Bits.{bit_and}
 use lib.ListN.{length, get_or, set, drop, replicate, length-set, length-take, length-replicate}
 use lib.Seq.{take_all, ext_get_or, get_or-set_same, get_or-set_other, length-paste, paste-zero}
-use Rattle.lists.specs.Bits.{bit_at, word_at, pack}
+use Rattle.lists.specs.Bits.{bit, bit_at, word_at, pack}
 use Rattle.lists.proofs.Tests.{lt_or_le}
 use Rattle.lists.proofs.Bits.{bit_none}
 use Rattle.lists.proofs.Sequences.{get_or_free}
 use Rattle.lists.proofs.Columns.{length_pack, get_or_pack, word_bit, word_lt, word_is, bit_at_same, bit_at_past}
-use Rattle.column.specs.Column.{WordOf, Swept, Laid, Turned, lay, register}
+use Rattle.column.specs.Column.{filled, masked, WordOf, Swept, Laid, Turned, lay, register}
 use Rattle.column.proofs.Registers.{paste_low, paste_in, paste_high, register_in, register_out}
-use Rattle.column.proofs.Words.{own_word, and_words}
+use Rattle.column.proofs.Words.{own_word, op_words}
 
 pub swept_none : {at : ℕ} {f : ℕ → Bool} {xs : List ℕ} → Swept at f 0 xs xs
 swept_none = record { long = refl; laid = λ w a. absurd (omega arith); low = λ i h. refl; high = λ i h. refl }
@@ -153,11 +152,11 @@ module _ (m : ℕ) (xs : List ℕ) where
   pub register_whole : m ≡ length xs → register 0 m xs ≡ xs
   register_whole e = take_all m xs (omega arith)
 
--- a word more, cut by a mask, of a column that comes from the register's own
-pub masked_next : (m : ℕ) {w x y : ℕ} {f g : ℕ → Bool} {xs ys : List ℕ} → w < m → m ≤ length xs → get_or ys w 0 < 2 ^ 64 → WordOf f w x
-    → (WordOf (bit_at (register 0 m xs)) w (get_or ys w 0) → WordOf g w y) → Swept 0 (λ t. f t && g t) w xs ys
-    → Swept 0 (λ t. f t && g t) (w + 1) xs (set ys w (bit_and x y))
-masked_next m h l a q turn r = swept_next r (omega arith) (and_words q (turn (own_next r m h a)))
+-- a word more, made of a mask and of the register's own word
+pub masked_next : (op : Bool → Bool → Bool) (m n : ℕ) {w x z : ℕ} {xs ys : List ℕ} → w < m → m ≤ length xs → get_or ys w 0 < 2 ^ 64 → WordOf (filled n) w x → z < 2 ^ 64
+    → ((i : ℕ) → i < 64 → bit z i ≡ op (bit x i) (bit (get_or ys w 0) i)) → Swept 0 (masked op n (register 0 m xs)) w xs ys
+    → Swept 0 (masked op n (register 0 m xs)) (w + 1) xs (set ys w z)
+masked_next op m n h l a p fits bits r = swept_next r (omega arith) (op_words op p (own_next r m h a) fits bits)
 
 -- the sweep of a whole list that is done
 pub swept_whole : (op : List ℕ → ℕ → Bool) {m w : ℕ} {xs ys : List ℕ} → m ≡ length xs → Swept 0 (op (register 0 m xs)) w xs ys → w ≤ m → m ≤ w

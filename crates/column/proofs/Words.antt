@@ -20,6 +20,21 @@ use Rattle.column.specs.Column.{WordOf, filled}
 pub own_word : (c : List ℕ) (w : ℕ) {x : ℕ} → x < 2 ^ 64 → x ≡ get_or c w 0 → WordOf (bit_at c) w x
 own_word c w h e = record { fits = h; bits = λ i k. ap (λ (y : ℕ). bit y i) e ∙ sym (bit_at_at c (64 * w + i) w i refl k) }
 
+-- a word that is made of two, bit by bit
+pub op_words : (op : Bool → Bool → Bool) {f g : ℕ → Bool} {w x y z : ℕ} → WordOf f w x → WordOf g w y → z < 2 ^ 64
+    → ((i : ℕ) → i < 64 → bit z i ≡ op (bit x i) (bit y i)) → WordOf (λ t. op (f t) (g t)) w z
+op_words op p q fits bits = record { fits = fits; bits = λ i h. bits i h ∙ ap₂ op (p.bits i h) (q.bits i h) }
+
+-- the words that the operations on words make
+pub bit_and_by : (x y : ℕ) {z : ℕ} → z ≡ bit_and x y → (i : ℕ) → bit z i ≡ (bit x i && bit y i)
+bit_and_by x y e i = rw e (bit_and_lem x y i)
+
+pub bit_or_by : (x y : ℕ) {z : ℕ} → z ≡ bit_or x y → (i : ℕ) → bit z i ≡ (bit x i || bit y i)
+bit_or_by x y e i = rw e (bit_or_lem x y i)
+
+pub bit_and_not_by : (x y : ℕ) {z : ℕ} → y < 2 ^ 64 → z ≡ bit_and x ((2 ^ 64 - 1) - y) → (i : ℕ) → i < 64 → bit z i ≡ (bit x i && not (bit y i))
+bit_and_not_by x y b e i h = bit_and_by x ((2 ^ 64 - 1) - y) e i ∙ ap (λ (v : Bool). bit x i && v) (bit_not 64 y i b h)
+
 pub or_words : {f g : ℕ → Bool} {w x y : ℕ} → WordOf f w x → WordOf g w y → WordOf (λ t. f t || g t) w (bit_or x y)
 or_words {x = x} {y = y} p q = record { fits = or_lt 64 x y p.fits q.fits; bits = λ i h. bit_or_lem x y i ∙ ap₂ ◌||◌ (p.bits i h) (q.bits i h) }
 

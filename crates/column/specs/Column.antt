@@ -11,6 +11,10 @@ filled n t = ltb t n
 abbrev pub flipped : ℕ → List ℕ → ℕ → Bool
 flipped n c t = ltb t n && not (bit_at c t)
 
+-- what op makes of the first n bits and of the column c, bit by bit
+abbrev pub masked : (Bool → Bool → Bool) → ℕ → List ℕ → ℕ → Bool
+masked op n c t = op (ltb t n) (bit_at c t)
+
 -- ---- where it stands
 -- the whole list holds the column f
 pub record Turned (f : ℕ → Bool) (xs ys : List ℕ) : Type 0 where
@@ -31,6 +35,10 @@ pub record Laid (at m : ℕ) (f : ℕ → Bool) (xs ys : List ℕ) : Type 0 wher
 pub record WordOf (f : ℕ → Bool) (w x : ℕ) : Type 0 where
   pub fits : x < 2 ^ 64
   pub bits : (i : ℕ) → i < 64 → bit x i ≡ f (64 * w + i)
+
+-- each word that is made of two words is what op makes of them, bit by bit
+abbrev pub Bitwise : (ℕ → ℕ → ℕ → Type 0) → (Bool → Bool → Bool) → Type 0
+Bitwise Makes op = (x y z : ℕ) → x < 2 ^ 64 → y < 2 ^ 64 → Makes x y z → (i : ℕ) → i < 64 → bit z i ≡ op (bit x i) (bit y i)
 
 -- ys is xs but for the first `upto` words of the register at `at`, which are those of the column f
 pub record Swept (at : ℕ) (f : ℕ → Bool) (upto : ℕ) (xs ys : List ℕ) : Type 0 where

@@ -4,11 +4,15 @@ use mathlib.Core.Bool.{Bool, true, false}
 use mathlib.Core.List.{List, ◌++◌}
 use Prim.Native.Nat.{ℕ, ◌+◌, ◌*◌, ◌/◌, ◌%◌, ◌≤◌, ◌<◌}
 use native.Mathlib.Omega.{arith}
-use borrow.Author.Tests.{leb-false, ltb-false, ne_eqb, not-false}
+use borrow.Author.Tests.{leb-false, ltb-false, not-false}
 use borrow.Rule.Slice.PartMut.{mid_of}
 use lib.Dec.{eqb}
 use lib.ListN.{length, get_or, drop, replicate}
 use Rattle.limits.specs.Limits.{register_words, scratch_words, early_scratch_words}
+use Rattle.std.specs.Prelude.{Ok, Err}
+use Rattle.refusals.specs.Refusals.{number_of}
+use Rattle.refusals.specs.declared.Refusal.{Refusal}
+use Rattle.refusals.proofs.Positive.{refuses as no_refusal}
 use Rattle.lists.specs.Bits.{bit, bit_at, words, packed}
 use Rattle.lists.proofs.Columns.{packed_in}
 use Rattle.lists.proofs.Rows.{no_row}
@@ -23,8 +27,7 @@ use Rattle.table.specs.declared.Table.{Table}
 use Rattle.table.proofs.Soundness.{fits_iff, sound_iff}
 use Rattle.needed.specs.Marks.{marked}
 use Rattle.early.specs.declared.Decision.{Decision}
-use Rattle.early.specs.declared.Decision.TheVariants.{Refused}
-use Rattle.early.specs.Early.{refused, value, told_by, early_rows, early_number, early_number_for, both_cleared, Decides}
+use Rattle.early.specs.Early.{refused, value, decided, early_rows, early_number, early_number_for, both_cleared, Decides}
 use Rattle.early.specs.Code.Steps.{half, in_half, Columns, value_by, Answerable}
 
 -- ---- what two bits say
@@ -96,13 +99,13 @@ answerable {t} rule f =
     }
 
 module _ {t : Table} {rule : ℕ} {states : List ℕ} {tick : ℕ} {scratch : List ℕ} where
-  pub refuses : {r : ℕ} → r ≡ early_number_for t rule states tick scratch → (r ≡ 0 → ⊥) → Decides t rule states tick scratch (Refused r) scratch
-  refuses {r} e z =
-      let q : eqb (early_number_for t rule states tick scratch) 0 ≡ false = ap (λ (x : ℕ). eqb x 0) (sym e) ∙ ne_eqb r 0 z in
-      record { tells = rw q (ap refused e); clears = rw q }
+  pub refuses : (e : Refusal) → number_of e ≡ early_number_for t rule states tick scratch → Decides t rule states tick scratch (Err e) scratch
+  refuses e n =
+      let q : eqb (early_number_for t rule states tick scratch) 0 ≡ false = ap (λ (x : ℕ). eqb x 0) (sym n) ∙ no_refusal e in
+      record { tells = rw q (ap refused n); clears = rw q }
 
   pub accepts : {r : Decision} {scratch' : List ℕ} → early_number_for t rule states tick scratch ≡ 0
-      → told_by r ≡ value (known (watched_formula t rule) states tick) → scratch' ≡ both_cleared scratch → Decides t rule states tick scratch r scratch'
+      → decided r ≡ known (watched_formula t rule) states tick → scratch' ≡ both_cleared scratch → Decides t rule states tick scratch (Ok r) scratch'
   accepts e p q =
       let z : eqb (early_number_for t rule states tick scratch) 0 ≡ true = ap (λ (x : ℕ). eqb x 0) e in
-      record { tells = rw z p; clears = rw z q }
+      record { tells = rw z (ap value p); clears = rw z q }

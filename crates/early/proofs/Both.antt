@@ -1,10 +1,10 @@
--- What a node's step leaves in both halves, by its kind. Assumes nothing.
+-- What a node's step leaves in both halves, by its operator. Assumes nothing.
 use mathlib.Core.Path.{◌≡◌, refl, sym, ap, ◌∙◌, subst}
 use mathlib.Core.Logic.{inl, inr, ⊎_elim}
-use mathlib.Core.Bool.{Bool, true, false, not, ◌&&◌, ◌||◌}
+use mathlib.Core.Bool.{Bool, true, false, false≢true, not, ◌&&◌}
 use mathlib.Core.List.{List}
-use Prim.Native.Nat.{ℕ, ◌+◌, ◌-◌, ◌*◌, ◌≤◌, ◌<◌, min}
-use native.Mathlib.Nat.{zero-add, eq-or-lt_of_le}
+use Prim.Native.Nat.{ℕ, ◌+◌, ◌-◌, ◌*◌, ◌≤◌, min}
+use native.Mathlib.Nat.{zero-add}
 use native.Mathlib.Omega.{arith}
 use borrow.Author.Tests.{le-leb}
 use borrow.Rule.Slice.PartMut.{mid_of}
@@ -19,15 +19,15 @@ use Rattle.column.specs.Column.{register, lay, filled, flipped}
 use Rattle.column.proofs.Registers.{lay_ext}
 use Rattle.column.proofs.Parts.{register_below, register_part}
 use Rattle.signal.specs.Signal.{signal_column}
-use Rattle.table.specs.Nodes.{op_of}
+use Rattle.table.specs.Nodes.{Op, Unknown, Signal, Top, Bottom, Not, And, Or, Finally, Globally, Until, Release, op_of}
 use Rattle.table.specs.declared.Node.{Node}
 use Rattle.operators.specs.Operators.{one_fits, copy_fits, signal_laid, fill_laid, not_laid, copy_laid}
 use Rattle.operators.proofs.Fits.{copy_fits_lem}
 use Rattle.layout.specs.Layout.{Place, Computable}
+use Rattle.layout.proofs.Constants.{top_bits, no_bits}
 use Rattle.layout.proofs.Fitting.{place_of, fit_as, apart}
-use Rattle.early.specs.Code.Steps.{half, in_half, join_column, meet_column, join_column_in, meet_column_in, join_place, yes_column, no_column, yes_in, no_in, TwoSteps, NodeStep}
+use Rattle.early.specs.Code.Steps.{operates, constant, half, in_half, join_column, meet_column, join_column_in, meet_column_in, join_place, yes_column, no_column, yes_in, no_in, TwoSteps, NodeStep}
 use Rattle.early.proofs.Halves.{IsHalf, HalfStep, half_length, part_words, laid_half, first_then, second_then}
-use Rattle.early.proofs.ByKind.{each}
 
 module _ {i n : ℕ} {x : Node} {xs : List ℕ} (h : Computable early_scratch_words i n x xs) where
   abbrev own : ℕ
@@ -79,18 +79,17 @@ module _ {i n : ℕ} {x : Node} {xs : List ℕ} (h : Computable early_scratch_wo
   abbrev k : ℕ
   k = words n
 
-  -- the columns by the kind
-  by_kind : (j : ℕ) → x.kind ≡ j
+  -- the columns by the operator
+  by_op : {o : Op} → o ≡ op_of x.kind
       → TwoSteps a k
-      (yes_column (op_of j) x n states (in_half 0 x.left n xs) (in_half scratch_words x.left n xs) (in_half 0 x.right n xs) (in_half scratch_words x.right n xs))
-      (no_column (op_of j) x n states (in_half 0 x.left n xs) (in_half scratch_words x.left n xs) (in_half 0 x.right n xs) (in_half scratch_words x.right n xs)) xs zs
+      (yes_column o x n states (in_half 0 x.left n xs) (in_half scratch_words x.left n xs) (in_half 0 x.right n xs) (in_half scratch_words x.right n xs))
+      (no_column o x n states (in_half 0 x.left n xs) (in_half scratch_words x.left n xs) (in_half 0 x.right n xs) (in_half scratch_words x.right n xs)) xs zs
       → NodeStep x i n states xs zs
   unfolding yes_in no_in
-  by_kind j e s =
-      subst (λ (o : ℕ). TwoSteps a k
-      (yes_column (op_of o) x n states (in_half 0 x.left n xs) (in_half scratch_words x.left n xs) (in_half 0 x.right n xs) (in_half scratch_words x.right n xs))
-      (no_column (op_of o) x n states (in_half 0 x.left n xs) (in_half scratch_words x.left n xs) (in_half 0 x.right n xs) (in_half scratch_words x.right n xs)) xs zs)
-      (sym e) s
+  by_op e s =
+      subst (λ (o : Op). TwoSteps a k
+      (yes_column o x n states (in_half 0 x.left n xs) (in_half scratch_words x.left n xs) (in_half 0 x.right n xs) (in_half scratch_words x.right n xs))
+      (no_column o x n states (in_half 0 x.left n xs) (in_half scratch_words x.left n xs) (in_half 0 x.right n xs) (in_half scratch_words x.right n xs)) xs zs) e s
 
   first_room : leb (a + k) (length xs) ≡ true
   first_room = let l = h.enough in le-leb (a + k) (length xs) (omega (arith, small h))
@@ -99,27 +98,34 @@ module _ {i n : ℕ} {x : Node} {xs : List ℕ} (h : Computable early_scratch_wo
   second_room q = let l = h.enough in le-leb (scratch_words + a + k) (length ys) (omega (arith, small h))
 
   -- ---- constants: so many bits are set in the first half, and the others below n in the second
-  pub constant : (bits : ℕ) → 2 ≤ x.kind → x.kind ≤ 3 → bits ≡ pick (eqb x.kind 2) n 0
+  pub of_constant : (bits : ℕ) → constant (op_of x.kind) ≡ true → bits ≡ pick (eqb x.kind 2) n 0
       → ys ≡ pick (leb (a + k) (length xs)) (fill_laid a k bits xs) xs → length ys ≡ length xs
       → zs ≡ pick (leb (scratch_words + a + k) (length ys)) (fill_laid (scratch_words + a) k (n - bits) ys) ys
       → NodeStep x i n states xs zs
-  constant bits l u e p q r =
-      let s : TwoSteps a k (filled bits) (filled (n - bits)) xs zs =
-      first_then (laid_first h (picked (fill_laid a k bits xs) xs first_room p))
-      (laid_second (computes_after h q) (picked (fill_laid (scratch_words + a) k (n - bits) ys) ys (second_room q) r))
-      in
-      let is : (b c : ℕ) → bits ≡ b → n - bits ≡ c → TwoSteps a k (filled b) (filled c) xs zs =
-      λ b c v w. subst (λ (d : ℕ). TwoSteps a k (filled b) (filled d) xs zs) w (subst (λ (d : ℕ). TwoSteps a k (filled d) (filled (n - bits)) xs zs) v s)
-      in
-      ⊎_elim
-      (λ (v : 2 ≡ x.kind). let b : bits ≡ n = e ∙ ap (λ (o : ℕ). pick (eqb o 2) n 0) (sym v) in by_kind 2 (sym v) (is n 0 b (omega arith)))
-      (λ (v : 2 < x.kind).
-      let o : x.kind ≡ 3 = omega arith in
-      let b : bits ≡ 0 = e ∙ ap (λ (o : ℕ). pick (eqb o 2) n 0) o in by_kind 3 o (is 0 n b (omega arith)))
-      (eq-or-lt_of_le l)
+  of_constant bits is_one f p q r = go (op_of x.kind) refl is_one
+    where
+      s : TwoSteps a k (filled bits) (filled (n - bits)) xs zs
+      s = first_then (laid_first h (picked (fill_laid a k bits xs) xs first_room p))
+          (laid_second (computes_after h q) (picked (fill_laid (scratch_words + a) k (n - bits) ys) ys (second_room q) r))
+
+      is : (b c : ℕ) → bits ≡ b → n - bits ≡ c → TwoSteps a k (filled b) (filled c) xs zs
+      is b c v w = subst (λ (d : ℕ). TwoSteps a k (filled b) (filled d) xs zs) w (subst (λ (d : ℕ). TwoSteps a k (filled d) (filled (n - bits)) xs zs) v s)
+
+      go : (o : Op) → o ≡ op_of x.kind → constant o ≡ true → NodeStep x i n states xs zs
+      go Top e t = let b : bits ≡ n = f ∙ top_bits n x.kind e in by_op e (is n 0 b (omega arith))
+      go Bottom e t = let b : bits ≡ 0 = f ∙ no_bits n x.kind e refl in by_op e (is 0 n b (omega arith))
+      go Unknown e t = let b : bits ≡ 0 = f ∙ no_bits n x.kind e refl in by_op e (is 0 n b (omega arith))
+      go Signal e t = absurd (false≢true t)
+      go Not e t = absurd (false≢true t)
+      go And e t = absurd (false≢true t)
+      go Or e t = absurd (false≢true t)
+      go Finally e t = absurd (false≢true t)
+      go Globally e t = absurd (false≢true t)
+      go Until e t = absurd (false≢true t)
+      go Release e t = absurd (false≢true t)
 
   -- ---- a signal, and where it is clear below n
-  pub signal : x.kind ≡ 1 → ys ≡ pick (leb (a + k) (length xs)) (signal_laid a k states x.arg xs) xs → length ys ≡ length xs
+  pub signal : Signal ≡ op_of x.kind → ys ≡ pick (leb (a + k) (length xs)) (signal_laid a k states x.arg xs) xs → length ys ≡ length xs
       → zs ≡ pick (one_fits a (scratch_words + a) k (length ys)) (not_laid a (scratch_words + a) k n ys) ys
       → NodeStep x i n states xs zs
   signal e p q r =
@@ -129,12 +135,12 @@ module _ {i n : ℕ} {x : Node} {xs : List ℕ} (h : Computable early_scratch_wo
       let s : HalfStep 0 a k f xs ys = laid_first h (picked (signal_laid a k states x.arg xs) xs first_room p ∙ ap (λ (j : ℕ). lay a j f xs) wide) in
       let held : register a k ys ≡ pack k f = ap (λ (at : ℕ). register at k ys) (sym (zero-add a)) ∙ of_half h 0 a (inl refl) (small h) ys q ∙ s.here.here in
       let room : one_fits a (scratch_words + a) k (length ys) ≡ true = le-leb (a + k) (scratch_words + a) (omega (arith, small h)) also second_room q in
-      by_kind 1 e (first_then s (laid_second (computes_after h q) (picked (not_laid a (scratch_words + a) k n ys) ys room r
+      by_op e (first_then s (laid_second (computes_after h q) (picked (not_laid a (scratch_words + a) k n ys) ys room r
       ∙ lay_ext (scratch_words + a) k (flipped n (register a k ys)) (λ t. ltb t n && not (f t)) ys (λ t l.
       ap (λ (b : Bool). ltb t n && not b) (ap (λ (c : List ℕ). bit_at c t) held ∙ bit_at_pack k f t l)))))
 
   -- ---- not: the operand's registers exchanged
-  pub negated : x.kind ≡ 4 → ys ≡ pick (copy_fits (scratch_words + register_words * x.left) a k (length xs)) (copy_laid (scratch_words + register_words * x.left) a k xs) xs
+  pub negated : Not ≡ op_of x.kind → ys ≡ pick (copy_fits (scratch_words + register_words * x.left) a k (length xs)) (copy_laid (scratch_words + register_words * x.left) a k xs) xs
       → length ys ≡ length xs
       → zs ≡ pick (copy_fits (register_words * x.left) (scratch_words + a) k (length ys)) (copy_laid (register_words * x.left) (scratch_words + a) k ys) ys
       → NodeStep x i n states xs zs
@@ -143,7 +149,7 @@ module _ {i n : ℕ} {x : Node} {xs : List ℕ} (h : Computable early_scratch_wo
       let v = h.place in
       let z = small h in
       let c : ℕ = register_words * x.left in
-      let before : c + register_words ≤ a = apart ((fit_as 4 i x e h.fitting).left refl) in
+      let before : c + register_words ≤ a = apart ((fit_as i x e h.fitting).left refl) in
       let wide : k ≤ register_words = let o = h.short in omega arith in
       let f : ℕ → Bool = bit_at (in_half scratch_words x.left n xs) in
       let g : ℕ → Bool = bit_at (in_half 0 x.left n xs) in
@@ -156,38 +162,60 @@ module _ {i n : ℕ} {x : Node} {xs : List ℕ} (h : Computable early_scratch_wo
       ∙ register_below a c k (half 0 xs) (half 0 ys) s.here.low (omega arith) (omega (arith, half_length 0 xs (inl refl) w))
       (omega (arith, half_length 0 ys (inl refl) (omega arith)))
       in
-      by_kind 4 e (first_then s (laid_second (computes_after h q) (picked (copy_laid c (scratch_words + a) k ys) ys up r ∙ ap (λ (l : List ℕ). lay (scratch_words + a) k (bit_at l) ys) lower)))
+      by_op e (first_then s (laid_second (computes_after h q) (picked (copy_laid c (scratch_words + a) k ys) ys up r ∙ ap (λ (l : List ℕ). lay (scratch_words + a) k (bit_at l) ys) lower)))
 
 -- ---- and, or, F, G, U, R: one half is joined, and the other met
 -- which is which
 module _ (x : Node) (n : ℕ) (states ya na yb nb : List ℕ) where
-  joined_first : (j : ℕ) → 5 ≤ j → j ≤ 10 → join_place j ≡ 0
-      → (join_column j x n ya yb ≡ yes_column (op_of j) x n states ya na yb nb) × (meet_column j x n na nb ≡ no_column (op_of j) x n states ya na yb nb)
-  joined_first =
-      each (λ j. join_place j ≡ 0 → (join_column j x n ya yb ≡ yes_column (op_of j) x n states ya na yb nb) × (meet_column j x n na nb ≡ no_column (op_of j) x n states ya na yb nb))
-      (λ z. absurd (omega arith)) (λ z. (refl, refl)) (λ z. (refl, refl)) (λ z. absurd (omega arith)) (λ z. (refl, refl)) (λ z. absurd (omega arith))
+  joined_first : (o : Op) → operates o ≡ true → join_place o ≡ 0
+      → (join_column o x n ya yb ≡ yes_column o x n states ya na yb nb) × (meet_column o x n na nb ≡ no_column o x n states ya na yb nb)
+  joined_first Unknown t z = absurd (false≢true t)
+  joined_first Signal t z = absurd (false≢true t)
+  joined_first Top t z = absurd (false≢true t)
+  joined_first Bottom t z = absurd (false≢true t)
+  joined_first Not t z = absurd (false≢true t)
+  joined_first And t z = absurd (omega arith)
+  joined_first Or t z = (refl, refl)
+  joined_first Finally t z = (refl, refl)
+  joined_first Globally t z = absurd (omega arith)
+  joined_first Until t z = (refl, refl)
+  joined_first Release t z = absurd (omega arith)
 
-  joined_second : (j : ℕ) → 5 ≤ j → j ≤ 10 → join_place j ≡ scratch_words
-      → (meet_column j x n ya yb ≡ yes_column (op_of j) x n states ya na yb nb) × (join_column j x n na nb ≡ no_column (op_of j) x n states ya na yb nb)
-  joined_second =
-      each (λ j. join_place j ≡ scratch_words → (meet_column j x n ya yb ≡ yes_column (op_of j) x n states ya na yb nb) × (join_column j x n na nb ≡ no_column (op_of j) x n states ya na yb nb))
-      (λ z. (refl, refl)) (λ z. absurd (omega arith)) (λ z. absurd (omega arith)) (λ z. (refl, refl)) (λ z. absurd (omega arith)) (λ z. (refl, refl))
+  joined_second : (o : Op) → operates o ≡ true → join_place o ≡ scratch_words
+      → (meet_column o x n ya yb ≡ yes_column o x n states ya na yb nb) × (join_column o x n na nb ≡ no_column o x n states ya na yb nb)
+  joined_second Unknown t z = absurd (false≢true t)
+  joined_second Signal t z = absurd (false≢true t)
+  joined_second Top t z = absurd (false≢true t)
+  joined_second Bottom t z = absurd (false≢true t)
+  joined_second Not t z = absurd (false≢true t)
+  joined_second And t z = (refl, refl)
+  joined_second Or t z = absurd (omega arith)
+  joined_second Finally t z = absurd (omega arith)
+  joined_second Globally t z = (refl, refl)
+  joined_second Until t z = absurd (omega arith)
+  joined_second Release t z = (refl, refl)
 
-join_place_lem : (k : ℕ) → IsHalf (join_place k)
-join_place_lem k = go (eqb k 6 || eqb k 7 || eqb k 9)
-  where
-    go : (b : Bool) → IsHalf (pick b 0 scratch_words)
-    go true = inl refl
-    go false = inr refl
+join_place_lem : (o : Op) → IsHalf (join_place o)
+join_place_lem Unknown = inr refl
+join_place_lem Signal = inr refl
+join_place_lem Top = inr refl
+join_place_lem Bottom = inr refl
+join_place_lem Not = inr refl
+join_place_lem And = inr refl
+join_place_lem Or = inl refl
+join_place_lem Finally = inl refl
+join_place_lem Globally = inr refl
+join_place_lem Until = inl refl
+join_place_lem Release = inr refl
 
-pub halves_of : (k : ℕ) {j : ℕ} → j ≡ join_place k → IsHalf j × IsHalf (scratch_words - j)
-halves_of k e =
-    ⊎_elim (λ z. let q = e ∙ z in (inl q, inr (omega arith))) (λ z. let q = e ∙ z in (inr q, inl (omega arith))) (join_place_lem k)
+pub halves_of : (o : Op) {j : ℕ} → j ≡ join_place o → IsHalf j × IsHalf (scratch_words - j)
+halves_of o e =
+    ⊎_elim (λ z. let q = e ∙ z in (inl q, inr (omega arith))) (λ z. let q = e ∙ z in (inr q, inl (omega arith))) (join_place_lem o)
 
 pub half_room : {j : ℕ} → IsHalf j → j ≤ scratch_words
 half_room i = ⊎_elim (λ e. omega arith) (λ e. omega arith) i
 
-module _ {i n : ℕ} {x : Node} {xs ys zs : List ℕ} (h : Computable early_scratch_words i n x xs) (low : 5 ≤ x.kind) (high : x.kind ≤ 10) (states : List ℕ) (j : ℕ) (place : j ≡ join_place x.kind)
+module _ {i n : ℕ} {x : Node} {xs ys zs : List ℕ} (h : Computable early_scratch_words i n x xs) (six : operates (op_of x.kind) ≡ true) (states : List ℕ) (j : ℕ) (place : j ≡ join_place (op_of x.kind))
     (r : HalfStep j (register_words * i) (words n) (join_column_in x n (half j xs)) xs ys)
     (s : HalfStep (scratch_words - j) (register_words * i) (words n) (meet_column_in x n (half (scratch_words - j) ys)) ys zs) where
   abbrev ya : List ℕ
@@ -224,15 +252,15 @@ module _ {i n : ℕ} {x : Node} {xs ys zs : List ℕ} (h : Computable early_scra
   unfolding yes_in no_in join_column_in meet_column_in
   operated =
       ⊎_elim
-      (λ (e : join_place x.kind ≡ 0).
-      let c = joined_first x n states ya na yb nb x.kind low high e in
+      (λ (e : join_place (op_of x.kind) ≡ 0).
+      let c = joined_first x n states ya na yb nb (op_of x.kind) six e in
       subst (λ (f : ℕ → Bool). TwoSteps b w f (no_in x n states xs) xs zs) c.0
       (subst (λ (f : ℕ → Bool). TwoSteps b w (join_column_in x n (half 0 xs)) f xs zs) c.1 (at_first (place ∙ e))))
-      (λ (e : join_place x.kind ≡ scratch_words).
-      let c = joined_second x n states ya na yb nb x.kind low high e in
+      (λ (e : join_place (op_of x.kind) ≡ scratch_words).
+      let c = joined_second x n states ya na yb nb (op_of x.kind) six e in
       subst (λ (f : ℕ → Bool). TwoSteps b w f (no_in x n states xs) xs zs) c.0
       (subst (λ (f : ℕ → Bool). TwoSteps b w (meet_column_in x n (half 0 xs)) f xs zs) c.1 (at_second (place ∙ e))))
-      (join_place_lem x.kind)
+      (join_place_lem (op_of x.kind))
 
 -- a constant has no more bits than states
 pub few_bits : (x : Node) (n : ℕ) {bits : ℕ} → bits ≡ pick (eqb x.kind 2) n 0 → bits ≤ n

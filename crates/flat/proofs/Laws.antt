@@ -3,23 +3,34 @@
 use Prim.Native.Nat.{ℕ, zero, suc, ◌+◌, ◌-◌, ◌*◌, ◌/◌, ◌%◌, ◌≤◌, ◌<◌}
 use native.Mathlib.Omega.{arith}
 use mathlib.Core.Path.{◌≡◌, refl, sym, ap, subst, ◌∙◌}
-use mathlib.Core.Bool.{true, false}
+use mathlib.Core.Bool.{true, false, and_assoc, and-true}
 use mathlib.Core.Logic.{⊎_elim}
-use mathlib.Core.List.{List, ◌++◌, append-nil}
+use mathlib.Core.List.{List, ◌++◌, append-nil, append_assoc}
 use borrow.Author.Tests.{lt-ltb, le-ltb, le-leb, lt-leb, eqb-true, eq-eqb}
+use borrow.Rule.Slice.PartMut.{put_mid}
 use lib.Dec.{eqb}
 use lib.ListN.{length, get_or, take, drop, set, take-append-drop, length-append, drop_of_length-le, get_or-append}
-use lib.Seq.{ext_get_or, get_or-take, take_at}
+use lib.Seq.{ext_get_or, get_or-take, length-take-le, take-take, take_at}
 use Rattle.lists.specs.Sequence.{ticks, pair_at}
 use Rattle.lists.proofs.Tests.{true_left, true_right, true_or_false, lt_or_le, ◌also◌}
 use Rattle.lists.proofs.Loops.{Over, over_start, over_more}
-use Rattle.lists.proofs.Sequences.{length_ticks, get_or_ticks, ticks_ext, drop_past, length_past}
+use Rattle.lists.proofs.Sequences.{length_ticks, get_or_ticks, ticks_add, ticks_ext, drop_past, length_past}
+use Rattle.std.specs.List.{list_all, range_with_len}
+use Rattle.std.specs.Array.{IsFromFnResult, IsFromFnResultFrom}
+use Rattle.std.specs.Fn.{Called}
+use denote.Param.Members.{Mut}
+use Rattle.std.proofs.lemmas.List.Edits.{paste_all}
+use Rattle.std.proofs.lemmas.Slice.{put_mid-paste}
 use Rattle.table.specs.declared.Node.{Node}
 use Rattle.table.specs.declared.Rule.{Rule}
 use Rattle.table.specs.declared.Table.{Table}
 use Rattle.table.specs.Nodes.{no_node, no_rule, no_table, node_at, rule_at}
 use Rattle.table.specs.Sound.{Sound}
 use Rattle.flat.specs.Flat.{node_byte, rule_byte, table_byte, bytes_holding, written, byte_at, node_from, rule_from, unpadded, table_from}
+
+-- the bytes behind the rules, rule by rule
+pub unpadded_all : (b : List ℕ) → list_all (λ i. eqb (byte_at b (517 + 4 * i)) 0) (range_with_len 0 8) ≡ unpadded b
+unpadded_all b = simp (and_assoc, and-true) refl
 
 -- ---- the answers of `read_table`
 module _ (b : List ℕ) where
@@ -58,6 +69,21 @@ module _ (b c : List ℕ) (e : take 546 b ≡ take 546 c) where
   same_table h k =
       rw (le-leb 546 (length b) h, le-leb 546 (length c) k, same_padding, ticks_ext (node_from b) (node_from c) 64 same_node_lem, ticks_ext (rule_from b) (rule_from c) 8 same_rule, same_byte 0 (omega arith), same_byte 1 (omega arith))
 
+-- ---- the first 546 bytes hold what all hold
+module _ (b p : List ℕ) (h : 546 ≤ length b) (e : p ≡ take 546 b) where
+  long : 546 ≤ length p
+  long = omega (arith, ap length e, length-take-le 546 b h)
+
+  all_hold : table_from p ≡ table_from b
+  all_hold = same_table p b (ap (take 546) e ∙ take-take 546 546 b (omega arith)) long h
+
+  pub first_padded : unpadded p ≡ false → no_table ≡ table_from b
+  first_padded u = from_padded p long u ∙ all_hold
+
+  pub first_bytes : unpadded p ≡ true
+      → ◌≡◌ {A = Table} (record { nodes = ticks (node_from p) 64; node_count = byte_at p 0; rules = ticks (rule_from p) 8; rule_count = byte_at p 1 }) (table_from b)
+  first_bytes u = from_bytes p long u ∙ all_hold
+
 -- ---- a table's bytes: byte k of node i, and of rule i
 module _ (t : Table) (i k j : ℕ) where
   node_byte_lem : i < 64 → k < 8 → j ≡ 2 + 8 * i + k → table_byte t j ≡ node_byte (node_at t i) k
@@ -72,29 +98,18 @@ module _ (t : Table) (i k j : ℕ) where
       let q : (j - 514) % 4 ≡ k = omega arith in
       simp (le-ltb j 2 (omega arith), le-ltb j 514 (omega arith), p, q)
 
--- ---- `write_table`, four places at a time
-abbrev four : List ℕ → ℕ → ℕ → ℕ → ℕ → ℕ → List ℕ
-four out i a b c d = set (set (set (set out i a) (i + 1) b) (i + 2) c) (i + 3) d
-
+-- ---- `write_table`, a node or a rule at a time
 module _ (f : ℕ → ℕ) (xs : List ℕ) where
-  over_next : {out : List ℕ} {v : ℕ} (i k : ℕ) → i < length xs → v ≡ f i → i + 1 ≡ k → Over f xs out i → Over f xs (set out i v) k
-  over_next {out} {v} i k h e p o = subst (λ (n : ℕ). Over f xs (set out i v) n) p (over_more f xs out i h e o)
-
-  over_four : {out last : List ℕ} {a b c d : ℕ} (i k : ℕ) → i + 4 ≤ length xs → a ≡ f i → b ≡ f (i + 1) → c ≡ f (i + 2) → d ≡ f (i + 3)
-      → i + 4 ≡ k → last ≡ four out i a b c d → Over f xs out i → Over f xs last k
-  over_four {out} {last} {a} {b} {c} {d} i k h ea eb ec ed p e o =
-      let o₁ : Over f xs (set out i a) (i + 1) = over_more f xs out i (omega arith) ea o in
-      let o₂ : Over f xs (set (set out i a) (i + 1) b) (i + 2) = over_next (i + 1) (i + 2) (omega arith) eb (omega arith) o₁ in
-      let o₃ : Over f xs (set (set (set out i a) (i + 1) b) (i + 2) c) (i + 3) = over_next (i + 2) (i + 3) (omega arith) ec (omega arith) o₂ in
-      let o₄ : Over f xs (four out i a b c d) k = over_next (i + 3) k (omega arith) ed (omega arith) o₃ in
-      subst (λ (l : List ℕ). Over f xs l k) (sym e) o₄
-
   -- the first i places hold f already
   pub over_from : (i : ℕ) → take i xs ≡ ticks f i → Over f xs xs i
   over_from i e = record { is = sym (take-append-drop i xs) ∙ ap (λ (l : List ℕ). l ++ drop i xs) e; long = refl }
 
   pub over_take : {out : List ℕ} (i : ℕ) → Over f xs out i → take i out ≡ ticks f i
   over_take i o = ap (take i) o.is ∙ take_at (ticks f i) (drop i xs) i (length_ticks f i)
+
+  -- all places are written
+  pub over_all : {out : List ℕ} (i : ℕ) → length xs ≡ i → Over f xs out i → out ≡ ticks f i
+  over_all i e o = o.is ∙ ap (λ (r : List ℕ). ticks f i ++ r) (drop_of_length-le xs {i = i} (omega arith)) ∙ append-nil (ticks f i)
 
   -- m places more are written
   pub over_on : {out last : List ℕ} (i m : ℕ) → i + m ≤ length xs → Over f xs out i → last ≡ ticks f (i + m) ++ drop (i + m) out
@@ -103,6 +118,17 @@ module _ (f : ℕ → ℕ) (xs : List ℕ) where
       let d : drop (i + m) out ≡ drop (i + m) xs = ap (drop (i + m)) o.is ∙ drop_past (ticks f i) xs i (length_ticks f i) m in
       let is : last ≡ ticks f (i + m) ++ drop (i + m) xs = e ∙ ap (λ (l : List ℕ). ticks f (i + m) ++ l) d in
       record { is = is; long = ap length is ∙ length_past (ticks f (i + m)) xs (i + m) (length_ticks f (i + m)) h }
+
+  -- k places more are copied
+  over_part : {out mid : List ℕ} {j : ℕ} (i k : ℕ) → i + k ≤ length xs → j ≡ k → mid ≡ ticks (λ m. f (i + m)) k → Over f xs out i
+      → Over f xs (put_mid i j out mid) (i + k)
+  over_part {out} {mid} {j} i k h e m o =
+      let l : k ≡ length mid = rw m (sym (length_ticks (λ n. f (i + n)) k)) in
+      let t : take i out ++ mid ≡ ticks f (i + k) =
+      ap (λ (y : List ℕ). y ++ mid) (over_take i o) ∙ ap (λ (y : List ℕ). ticks f i ++ y) m ∙ sym (ticks_add f i k) in
+      over_on i k h o
+      (put_mid-paste i j out mid mid k refl (sym e) l ∙ paste_all out i mid k l ∙ sym (append_assoc (take i out) mid (drop (i + k) out))
+      ∙ ap (λ (y : List ℕ). y ++ drop (i + k) out) t)
 
 module _ (t : Table) (xs : List ℕ) (h : 546 ≤ length xs) where
   abbrev counted : List ℕ
@@ -114,34 +140,24 @@ module _ (t : Table) (xs : List ℕ) (h : 546 ≤ length xs) where
   pub nodes_put : {out : List ℕ} → out ≡ ticks (table_byte t) 514 ++ drop 514 counted → Over (table_byte t) xs out 514
   nodes_put e = over_on (table_byte t) xs 2 512 (omega arith) counts_put e
 
-  pub rules_put : {out last : List ℕ} → out ≡ ticks (table_byte t) 514 ++ drop 514 counted → last ≡ bytes_holding t ++ drop 546 out
-      → Over (table_byte t) xs last 546
-  rules_put e k = over_on (table_byte t) xs 514 32 h (nodes_put e) k
+  module _ (i : ℕ) {out mid : List ℕ} where
+    pub node_put : {j : ℕ} → i < 64 → j ≡ 8 → mid ≡ ticks (node_byte (node_at t i)) 8
+        → Over (table_byte t) xs out (2 + 8 * i) → Over (table_byte t) xs (put_mid (2 + 8 * i) j out mid) (2 + 8 * (i + 1))
+    node_put {j} l e m o =
+        let k : 2 + 8 * i + 8 ≡ 2 + 8 * (i + 1) = omega arith in
+        let b : mid ≡ ticks (λ k. table_byte t (2 + 8 * i + k)) 8 =
+        m ∙ ticks_ext (node_byte (node_at t i)) (λ k. table_byte t (2 + 8 * i + k)) 8 (λ k h. sym (node_byte_lem t i k (2 + 8 * i + k) l h refl)) in
+        subst (λ (n : ℕ). Over (table_byte t) xs (put_mid (2 + 8 * i) j out mid) n) k
+        (over_part (table_byte t) xs (2 + 8 * i) 8 (omega arith) e b o)
 
-  module _ (i : ℕ) {out last : List ℕ} where
-    pub node_put : {mid : List ℕ} → i < 64 → let b : ℕ → ℕ = node_byte (node_at t i) in
-        mid ≡ four out (2 + 8 * i) (b 0) (b 1) (b 2) (b 3) → last ≡ four mid (2 + 8 * i + 4) (b 4) (b 5) (b 6) (b 7)
-        → Over (table_byte t) xs out (2 + 8 * i) → Over (table_byte t) xs last (2 + 8 * (i + 1))
-    node_put {mid} l e₁ e₂ o =
-        let j : ℕ = 2 + 8 * i in
-        let m : Over (table_byte t) xs mid (j + 4) =
-        over_four (table_byte t) xs j (j + 4) (omega arith) (byte 0 j (omega arith) (omega arith)) (byte 1 (j + 1) (omega arith) refl)
-        (byte 2 (j + 2) (omega arith) refl) (byte 3 (j + 3) (omega arith) refl) refl e₁ o in
-        over_four (table_byte t) xs (j + 4) (2 + 8 * (i + 1)) (omega arith) (byte 4 (j + 4) (omega arith) refl) (byte 5 (j + 4 + 1) (omega arith) (omega arith))
-        (byte 6 (j + 4 + 2) (omega arith) (omega arith)) (byte 7 (j + 4 + 3) (omega arith) (omega arith)) (omega arith) e₂ m
-      where
-        byte : (k j : ℕ) → k < 8 → j ≡ 2 + 8 * i + k → node_byte (node_at t i) k ≡ table_byte t j
-        byte k j h e = sym (node_byte_lem t i k j l h e)
-
-    pub rule_put : i < 8 → let b : ℕ → ℕ = rule_byte (rule_at t i) in last ≡ four out (514 + 4 * i) (b 0) (b 1) (b 2) (b 3)
-        → Over (table_byte t) xs out (514 + 4 * i) → Over (table_byte t) xs last (514 + 4 * (i + 1))
-    rule_put l e o =
-        let j : ℕ = 514 + 4 * i in
-        over_four (table_byte t) xs j (514 + 4 * (i + 1)) (omega arith) (byte 0 j (omega arith) (omega arith)) (byte 1 (j + 1) (omega arith) refl)
-        (byte 2 (j + 2) (omega arith) refl) (byte 3 (j + 3) (omega arith) refl) (omega arith) e o
-      where
-        byte : (k j : ℕ) → k < 4 → j ≡ 514 + 4 * i + k → rule_byte (rule_at t i) k ≡ table_byte t j
-        byte k j h e = sym (rule_byte_lem t i k j l h e)
+    pub rule_put : {j : ℕ} → i < 8 → j ≡ 4 → mid ≡ ticks (rule_byte (rule_at t i)) 4
+        → Over (table_byte t) xs out (514 + 4 * i) → Over (table_byte t) xs (put_mid (514 + 4 * i) j out mid) (514 + 4 * (i + 1))
+    rule_put {j} l e m o =
+        let k : 514 + 4 * i + 4 ≡ 514 + 4 * (i + 1) = omega arith in
+        let b : mid ≡ ticks (λ k. table_byte t (514 + 4 * i + k)) 4 =
+        m ∙ ticks_ext (rule_byte (rule_at t i)) (λ k. table_byte t (514 + 4 * i + k)) 4 (λ k h. sym (rule_byte_lem t i k (514 + 4 * i + k) l h refl)) in
+        subst (λ (n : ℕ). Over (table_byte t) xs (put_mid (514 + 4 * i) j out mid) n) k
+        (over_part (table_byte t) xs (514 + 4 * i) 4 (omega arith) e b o)
 
 -- ---- a sound table's bytes
 module _ (t : Table) (rest : List ℕ) where
@@ -291,3 +307,19 @@ module _ (b : List ℕ) (byte : (j : ℕ) → j < 546 → byte_at b j < 256) whe
       ap bytes_holding (sym (from_bytes b (omega arith) u))
       ∙ ext_get_or 0 (bytes_holding held) b (length_ticks (table_byte held) 546 ∙ sym size)
       (λ j h. let l : j < 546 = omega (arith, length_ticks (table_byte held) 546) in get_or_ticks (table_byte held) 546 j 0 l ∙ held_byte u j l)
+
+-- ---- an array that a function of the place made
+module _ {F B : Type 0} (g : Mut F (ℕ × Unit {0}) B) (h : ℕ → B) (f : F) (ys : List B) (d : B)
+    (step : (i : ℕ) (y : B) (q : F) → Called g f (i, tt) y q → (q ≡ f) × (y ≡ h i)) where
+  made_from : (i n : ℕ) (p : F) → p ≡ f → IsFromFnResultFrom g p ys i n → (k : ℕ) → i ≤ k → k < i + n → get_or ys k d ≡ h k
+  made_from i zero p e r k a b = absurd (omega arith)
+  made_from i (suc n) p e (q, y, at, called, more) k a b =
+      let s = step i y q (subst (λ (u : F). Called g u (i, tt) y q) e called) in
+      ⊎_elim (λ (l : i < k). made_from (i + 1) n q s.0 more k (omega arith) (omega arith))
+      (λ (l : k ≤ i). let z : k ≡ i = omega arith in rw z (at.1 d ∙ s.1))
+      (lt_or_le i k)
+
+  pub made_ticks : (n : ℕ) → IsFromFnResult g f ys n → ys ≡ ticks h n
+  made_ticks n r =
+      ext_get_or d ys (ticks h n) (r.long ∙ sym (length_ticks h n))
+      (λ k l. made_from 0 n f refl r.each k (omega arith) (omega (arith, r.long)) ∙ sym (get_or_ticks h n k d (omega (arith, r.long))))

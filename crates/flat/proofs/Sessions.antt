@@ -1,14 +1,17 @@
 -- A session's bytes and back: `session-back`, that a session over a sound table is what its bytes hold, and `renewed-back`, that with
 -- another count of states they hold the session with that count; `narrow_wide`, that bytes with a count of 32 bits hold the same session
 -- either way. Assumes nothing.
-use Prim.Native.Nat.{ℕ, ◌+◌, ◌*◌, ◌/◌, ◌%◌, ◌≤◌, ◌<◌}
+use Prim.Native.Nat.{ℕ, suc, ◌+◌, ◌*◌, ◌/◌, ◌%◌, ◌≤◌, ◌<◌}
 use native.Mathlib.Nat.{add-zero, div-div-eq-div-mul}
 use native.Mathlib.Omega.{arith}
-use mathlib.Core.Path.{◌≡◌, sym, ap, ◌∙◌}
+use mathlib.Core.Path.{◌≡◌, refl, sym, ap, ◌∙◌}
 use mathlib.Core.List.{List, ◌++◌}
 use lib.ListN.{length, get_or, take, drop, set, length-set, take-append-drop}
-use lib.Seq.{get_or-set_same, get_or-set_other, take-set-le, take_at}
+use lib.Seq.{paste, paste-zero, paste-suc, get_or-set_same, get_or-set_other, take-set-le, take_at}
+use borrow.Rule.Slice.PartMut.{put_mid}
 use borrow.Author.Tests.{eq-eqb, ne_eqb}
+use Rattle.std.specs.Int.{w32, w64, to_le_bytes}
+use Rattle.std.proofs.lemmas.Slice.{put_mid-paste}
 use Rattle.lists.proofs.Sequences.{length_ticks}
 use Rattle.table.specs.declared.Table.{Table}
 use Rattle.table.specs.Nodes.{no_table}
@@ -21,6 +24,36 @@ use Rattle.narrow.specs.declared.NarrowSession.{NarrowSession}
 use Rattle.narrow.specs.Narrow.{wide_of}
 use Rattle.flat.specs.Sessions.{four_at, put_four, eight_at, put_eight, session_from, session_written, renewed, narrow_from}
 
+-- ---- bytes that are copied
+-- a byte more
+module _ (b : List ℕ) (at : ℕ) (m : List ℕ) where
+  byte_put : (j : ℕ) {l : List ℕ} {i v : ℕ} → l ≡ paste b at m j → i ≡ at + j → v ≡ get_or m j 0 → at + j < length b → j < length m → set l i v ≡ paste b at m (suc j)
+  byte_put j e p q h k = rw (e, p, q) (paste-suc b at m j 0 h k)
+
+pub four_copied : (b : List ℕ) (at x : ℕ) {mid : List ℕ} {k : ℕ} → at + 4 ≤ length b → k ≡ 4 → mid ≡ to_le_bytes w32 x → put_mid at k b mid ≡ put_four b at x
+four_copied b at x {mid} {k} h e c =
+    let m : List ℕ = to_le_bytes w32 x in
+    put_mid-paste at k b mid m 4 c (sym e) refl
+    ∙ sym (byte_put b at m 3 (byte_put b at m 2 (byte_put b at m 1 (byte_put b at m 0 (paste-zero b at m)
+    (omega arith) refl (omega arith) (omega arith)) refl refl (omega arith) (omega arith)) refl refl (omega arith) (omega arith)) refl refl (omega arith) (omega arith))
+
+pub eight_copied : (b : List ℕ) (at x : ℕ) {mid : List ℕ} {k : ℕ} → at + 8 ≤ length b → k ≡ 8 → mid ≡ to_le_bytes w64 x → put_mid at k b mid ≡ put_eight b at x
+eight_copied b at x {mid} {k} h e c =
+    let m : List ℕ = to_le_bytes w64 x in
+    let d₁ : x / 4294967296 / 256 ≡ x / 1099511627776 = div-div-eq-div-mul x 4294967296 256 in
+    let d₂ : x / 4294967296 / 65536 ≡ x / 281474976710656 = div-div-eq-div-mul x 4294967296 65536 in
+    let d₃ : x / 4294967296 / 16777216 ≡ x / 72057594037927936 = div-div-eq-div-mul x 4294967296 16777216 in
+    let s₁ = byte_put b at m 0 {v = x % 4294967296 % 256} (paste-zero b at m) (omega arith) (omega arith) (omega arith) (omega arith) in
+    let s₂ = byte_put b at m 1 {v = x % 4294967296 / 256 % 256} s₁ refl (omega arith) (omega arith) (omega arith) in
+    let s₃ = byte_put b at m 2 {v = x % 4294967296 / 65536 % 256} s₂ refl (omega arith) (omega arith) (omega arith) in
+    let s₄ = byte_put b at m 3 {v = x % 4294967296 / 16777216 % 256} s₃ refl (omega arith) (omega arith) (omega arith) in
+    let s₅ = byte_put b at m 4 s₄ refl refl (omega arith) (omega arith) in
+    let s₆ = byte_put b at m 5 s₅ (omega arith) (ap (λ (i : ℕ). i % 256) d₁) (omega arith) (omega arith) in
+    let s₇ = byte_put b at m 6 s₆ (omega arith) (ap (λ (i : ℕ). i % 256) d₂) (omega arith) (omega arith) in
+    let s₈ = byte_put b at m 7 s₇ (omega arith) (ap (λ (i : ℕ). i % 256) d₃) (omega arith) (omega arith) in
+    put_mid-paste at k b mid m 8 c (sym e) refl ∙ sym s₈
+
+-- ---- four bytes
 module _ (b : List ℕ) (at x : ℕ) where
   -- the list after one, two and three bytes
   abbrev b₁ : List ℕ

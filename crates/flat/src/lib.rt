@@ -1,15 +1,16 @@
 // Tables and sessions as bytes, for callers in other languages: a table is 546 bytes, a session 558.
 #![tactic(auto)]
 
-ghost use Rattle.std.specs.Prelude.{◌≡◌, ◌+◌, ◌*◌, ◌≤◌, ◌<◌, ◌++◌, length, take, drop, set};
-ghost use Rattle.limits.specs.Limits.{max_nodes, max_rules, table_bytes, session_bytes};
+ghost use Rattle.std.specs.Prelude.{◌≡◌, ◌+◌, ◌*◌, ◌≤◌, ◌<◌, ◌++◌, length, take, drop};
+ghost use Rattle.limits.specs.Limits.{max_nodes, max_rules, session_bytes};
 ghost use Rattle.lists.specs.Sequence.{ticks, pair_at};
-ghost use Rattle.flat.specs.Flat.{table_byte, bytes_holding, written, node_from, rule_from, unpadded, table_from};
+ghost use Rattle.flat.specs.Flat.{node_byte, rule_byte, table_byte, bytes_holding, written, node_from, rule_from, unpadded, table_from};
 ghost use Rattle.flat.specs.Sessions.{four_at, put_four, eight_at, put_eight, session_from, session_written, renewed, narrow_from};
 
 use limits::{MAX_NODES, MAX_RULES, NARROW_BYTES, SESSION_BYTES, TABLE_BYTES};
 use narrow::NarrowSession;
 use session::Session;
+use std::array;
 use table::{Node, Rule, Table};
 
 // Where a session's rule number stands, and its count of states.
@@ -17,175 +18,129 @@ const RULE: usize = TABLE_BYTES;
 
 const SEEN: usize = RULE + 4;
 
+// N bytes from place `at` on.
+fn bytes_at<const N: usize>(b: &[u8], at: usize) -> [u8; N]
+    requires { at + N ≤ length b.now }
+    ensures { result ≡ take N (drop at b.now) }
+{
+    let mut bytes = [0; N];
+    bytes.copy_from_slice(&b[at..at + N]);
+    bytes
+}
+
+// A number of two bytes from place `at` on.
 fn pair_at(b: &[u8], at: usize) -> u16
     requires { at + 2 ≤ length b.now }
     ensures { result ≡ pair_at b.now at }
 {
-    lists::pair_of(b[at], b[at + 1])
+    u16::from_le_bytes(bytes_at(b, at))
 }
 
-fn node_from(b: &[u8], i: usize) -> Node
-    requires { (table_bytes ≤ length b.now) × (i < max_nodes) }
+// Node i.
+fn node_from(b: &[u8; TABLE_BYTES], i: usize) -> Node
+    requires { i < max_nodes }
     ensures { result ≡ node_from b.now i }
 {
     let at = 2 + 8 * i;
-    let lo = pair_at(b, at + 2);
-    let hi = pair_at(b, at + 4);
     Node {
         kind: b[at],
         arg: b[at + 1],
-        lo,
-        hi,
+        lo: pair_at(b, at + 2),
+        hi: pair_at(b, at + 4),
         left: b[at + 6],
         right: b[at + 7],
     }
 }
 
-fn rule_from(b: &[u8], i: usize) -> Rule
-    requires { (table_bytes ≤ length b.now) × (i < max_rules) }
+// Rule i.
+fn rule_from(b: &[u8; TABLE_BYTES], i: usize) -> Rule
+    requires { i < max_rules }
     ensures { result ≡ rule_from b.now i }
 {
     let at = 514 + 4 * i;
-    let name = pair_at(b, at);
     Rule {
-        name,
+        name: pair_at(b, at),
         watched: b[at + 2],
     }
 }
 
-fn no_node() -> Node
-    ensures { result ≡ record { kind = 0; arg = 0; lo = 0; hi = 0; left = 0; right = 0 } }
-{
-    Node {
-        kind: 0,
-        arg: 0,
-        lo: 0,
-        hi: 0,
-        left: 0,
-        right: 0,
-    }
-}
-
-fn no_rule() -> Rule
-    ensures { result ≡ record { name = 0; watched = 0 } }
-{
-    Rule {
-        name: 0,
-        watched: 0,
-    }
-}
-
-fn nodes_from(b: &[u8]) -> [Node; MAX_NODES]
-    requires { table_bytes ≤ length b.now }
+// All nodes.
+fn nodes_from(b: &[u8; TABLE_BYTES]) -> [Node; MAX_NODES]
     ensures { result ≡ ticks (node_from b.now) max_nodes }
 {
-    let none = no_node();
-    let mut nodes = [none; MAX_NODES];
-    for i in 0..MAX_NODES {
-        nodes[i] = node_from(b, i);
-    }
-    nodes
+    array::from_fn(|i| node_from(b, i))
 }
 
-fn rules_from(b: &[u8]) -> [Rule; MAX_RULES]
-    requires { table_bytes ≤ length b.now }
+// All rules.
+fn rules_from(b: &[u8; TABLE_BYTES]) -> [Rule; MAX_RULES]
     ensures { result ≡ ticks (rule_from b.now) max_rules }
 {
-    let none = no_rule();
-    let mut rules = [none; MAX_RULES];
-    for i in 0..MAX_RULES {
-        rules[i] = rule_from(b, i);
-    }
-    rules
+    array::from_fn(|i| rule_from(b, i))
 }
 
-fn is_unpadded(b: &[u8]) -> bool
-    requires { table_bytes ≤ length b.now }
+// The bytes behind the rules are zero.
+fn is_unpadded(b: &[u8; TABLE_BYTES]) -> bool
     ensures { result ≡ unpadded b.now }
 {
-    (b[517] == 0)
-        & (b[521] == 0)
-        & (b[525] == 0)
-        & (b[529] == 0)
-        & (b[533] == 0)
-        & (b[537] == 0)
-        & (b[541] == 0)
-        & (b[545] == 0)
+    (0..MAX_RULES).all(|i| b[517 + 4 * i] == 0)
 }
 
 // The table that the bytes hold, and 'no table' where they are no table's.
 pub fn read_table(b: &[u8]) -> Table
     ensures { result ≡ table_from b.now }
 {
-    if b.len() < TABLE_BYTES {
+    let Some(b) = b.first_chunk() else {
         return table::no_table();
-    }
+    };
     if !is_unpadded(b) {
         return table::no_table();
     }
-    let nodes = nodes_from(b);
-    let rules = rules_from(b);
     Table {
-        nodes,
+        nodes: nodes_from(b),
         node_count: b[0] as usize,
-        rules,
+        rules: rules_from(b),
         rule_count: b[1] as usize,
     }
 }
 
-// Four bytes, from place `at` on.
-fn put_bytes(out: &mut [u8], at: usize, a: u8, b: u8, c: u8, d: u8)
-    requires { at + 4 ≤ length out.old }
-    ensures { out.new ≡ set (set (set (set out.old at a) (at + 1) b) (at + 2) c) (at + 3) d }
+// The bytes of a node.
+fn node_bytes(n: Node) -> [u8; 8]
+    ensures { result ≡ ticks (node_byte n) 8 }
 {
-    out[at] = a;
-    out[at + 1] = b;
-    out[at + 2] = c;
-    out[at + 3] = d;
+    let [lo_low, lo_high] = n.lo.to_le_bytes();
+    let [hi_low, hi_high] = n.hi.to_le_bytes();
+    [
+        n.kind, n.arg, lo_low, lo_high, hi_low, hi_high, n.left, n.right,
+    ]
+}
+
+// The bytes of a rule, and one that is zero.
+fn rule_bytes(r: Rule) -> [u8; 4]
+    ensures { result ≡ ticks (rule_byte r) 4 }
+{
+    let [low, high] = r.name.to_le_bytes();
+    [low, high, r.watched, 0]
 }
 
 // The nodes, behind the counts.
-fn put_nodes(t: Table, out: &mut [u8])
-    requires { (table_bytes ≤ length out.old) × (take 2 out.old ≡ ticks (table_byte t) 2) }
+fn put_nodes(t: Table, out: &mut [u8; TABLE_BYTES])
+    requires { take 2 out.old ≡ ticks (table_byte t) 2 }
     ensures { out.new ≡ ticks (table_byte t) 514 ++ drop 514 out.old }
 {
     for i in 0..MAX_NODES {
-        let n = t.nodes[i];
         let at = 2 + 8 * i;
-        put_bytes(
-            out,
-            at,
-            n.kind,
-            n.arg,
-            (n.lo % 256) as u8,
-            (n.lo / 256) as u8,
-        );
-        put_bytes(
-            out,
-            at + 4,
-            (n.hi % 256) as u8,
-            (n.hi / 256) as u8,
-            n.left,
-            n.right,
-        );
+        out[at..at + 8].copy_from_slice(&node_bytes(t.nodes[i]));
     }
 }
 
 // The rules, behind the counts and the nodes.
-fn put_rules(t: Table, out: &mut [u8])
-    requires { (table_bytes ≤ length out.old) × (take 514 out.old ≡ ticks (table_byte t) 514) }
-    ensures { out.new ≡ bytes_holding t ++ drop table_bytes out.old }
+fn put_rules(t: Table, out: &mut [u8; TABLE_BYTES])
+    requires { take 514 out.old ≡ ticks (table_byte t) 514 }
+    ensures { out.new ≡ bytes_holding t }
 {
     for i in 0..MAX_RULES {
-        let r = t.rules[i];
-        put_bytes(
-            out,
-            514 + 4 * i,
-            (r.name % 256) as u8,
-            (r.name / 256) as u8,
-            r.watched,
-            0,
-        );
+        let at = 514 + 4 * i;
+        out[at..at + 4].copy_from_slice(&rule_bytes(t.rules[i]));
     }
 }
 
@@ -193,9 +148,9 @@ fn put_rules(t: Table, out: &mut [u8])
 pub fn write_table(t: Table, out: &mut [u8])
     ensures { out.new ≡ written t out.old }
 {
-    if out.len() < TABLE_BYTES {
+    let Some(out) = out.first_chunk_mut() else {
         return;
-    }
+    };
     out[0] = (t.node_count % 256) as u8;
     out[1] = (t.rule_count % 256) as u8;
     put_nodes(t, out);
@@ -204,44 +159,36 @@ pub fn write_table(t: Table, out: &mut [u8])
 
 // ---- sessions
 
+// A number of four bytes from place `at` on.
 fn four_at(b: &[u8], at: usize) -> u32
     requires { at + 4 ≤ length b.now }
     ensures { result ≡ four_at b.now at }
 {
-    byte(b[at]) + 256 * byte(b[at + 1]) + 65536 * byte(b[at + 2]) + 16777216 * byte(b[at + 3])
+    u32::from_le_bytes(bytes_at(b, at))
 }
 
-fn byte(x: u8) -> u32
-    ensures { (result ≡ x) × (result ≤ 255) }
-{
-    x as u32
-}
-
+// A number of eight bytes from place `at` on.
 fn eight_at(b: &[u8], at: usize) -> u64
     requires { at + 8 ≤ length b.now }
     ensures { result ≡ eight_at b.now at }
 {
-    let low = four_at(b, at);
-    let high = four_at(b, at + 4);
-    low as u64 + 4294967296 * (high as u64)
+    u64::from_le_bytes(bytes_at(b, at))
 }
 
+// Four bytes, from place `at` on.
 fn put_four(b: &mut [u8; SESSION_BYTES], at: usize, x: u32)
     requires { at + 4 ≤ session_bytes }
     ensures { b.new ≡ put_four b.old at x }
 {
-    b[at] = (x % 256) as u8;
-    b[at + 1] = (x / 256 % 256) as u8;
-    b[at + 2] = (x / 65536 % 256) as u8;
-    b[at + 3] = (x / 16777216 % 256) as u8;
+    b[at..at + 4].copy_from_slice(&x.to_le_bytes());
 }
 
+// Eight bytes, from place `at` on.
 fn put_eight(b: &mut [u8; SESSION_BYTES], at: usize, x: u64)
     requires { at + 8 ≤ session_bytes }
     ensures { b.new ≡ put_eight b.old at x }
 {
-    put_four(b, at, (x % 4294967296) as u32);
-    put_four(b, at + 4, (x / 4294967296) as u32);
+    b[at..at + 8].copy_from_slice(&x.to_le_bytes());
 }
 
 // The session that the bytes hold.

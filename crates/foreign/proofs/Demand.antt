@@ -18,9 +18,7 @@ use Rattle.table.specs.Sound.{Sound}
 use Rattle.table.proofs.Soundness.{wait_sound_iff, sound_now}
 use Rattle.simplify.specs.Promise.{PromisedBy, SimplerBy}
 use Rattle.session.specs.declared.Session.{Session}
-use Rattle.session.specs.declared.Answer.{Answer}
-use Rattle.session.specs.declared.Opening.{Opening}
-use Rattle.session.specs.Session.{Effect, no_session, with_seen, unfit_by, opening_by, feed_rows, close_rows, feeding_by, closing_by}
+use Rattle.session.specs.Session.{Answer, Opening, Effect, no_session, with_seen, unfit_by, opening_by, feed_rows, close_rows, feeding_by, closing_by}
 use Rattle.session.proofs.Answers.{feed_fits}
 use Rattle.session.proofs.Effects.{opened_is, opened_rule, opened_sound, feed_number, feed_accepted, feed_refused_lem, close_number_lem, close_accepted, close_refused}
 use Rattle.narrow.specs.Narrow.{wide_of, widen_rows, widening_by}

@@ -12,9 +12,8 @@ use Rattle.lists.proofs.Rows.{first_within}
 use Rattle.lists.proofs.Tests.{true_or_false}
 use Rattle.table.specs.Sound.{Sound}
 use Rattle.table.specs.declared.Table.{Table}
-use Rattle.book.specs.declared.Reading.{Reading}
 use Rattle.book.specs.Entries.{Bytes}
-use Rattle.book.specs.Reading.{reading, code_of}
+use Rattle.book.specs.Reading.{Reading, reading, code_of}
 use Rattle.book.specs.Reading as book
 use Rattle.book.specs.Writing.{write_rows, writing}
 use Rattle.book.specs.Back.{Back}
@@ -23,8 +22,7 @@ use Rattle.flat.specs.Flat.{table_from, written}
 use Rattle.flat.specs.Sessions.{session_from}
 use Rattle.flat.proofs.Laws.{same_table, written_all, bytes_back}
 use Rattle.flat.proofs.Sessions.{take_four, take_eight, table_first}
-use Rattle.session.specs.declared.Answer.{Answer}
-use Rattle.session.specs.Session.{Effect}
+use Rattle.session.specs.Session.{Answer, Effect}
 use Rattle.shell.specs.Answers.{leaves, counted, Called}
 use Rattle.acts.specs.World.{Width, narrow, wide}
 use Rattle.foreign.specs.Demand.{held_in, renewed_in, Call, feed, close, widen, lent, Contract, answered_number, width_of, Calls, begin, accepted, refused, Start}

@@ -1,12 +1,17 @@
 -- The shorter splitting: what `double` returns, and what a caller reads off it. Assumes nothing.
-use mathlib.Core.Path.{◌≡◌, ◌∙◌}
-use mathlib.Core.Bool.{false}
+use mathlib.Core.Path.{◌≡◌, ap, ◌∙◌}
+use mathlib.Core.Logic.{⊎_elim}
+use Rattle.lists.proofs.Tests.{true_or_false}
+use mathlib.Core.Bool.{true, false}
 use Prim.Native.Nat.{ℕ, ◌+◌, ◌-◌, ◌^◌, ◌≤◌}
 use native.Mathlib.Omega.{arith}
 use lib.Pow.{pow_pos}
 use Rattle.interval.specs.Parts.{top, left, bad_interval}
-use Rattle.interval.specs.Doubling.{leftover, moves_for, move_count, doubling}
-use Rattle.interval.specs.declared.Doubling.{Doubling}
+use Rattle.std.specs.Prelude.{Ok, Err}
+use Rattle.refusals.specs.declared.Refusal.{Refusal}
+use Rattle.refusals.proofs.Positive.{refusal_above}
+use Rattle.interval.specs.declared.Moves.{Moves}
+use Rattle.interval.specs.Doubling.{Doubling, double_told, leftover, moves_for, move_count, doubling}
 use Rattle.interval.proofs.Laws.{interval_fits, top_largest, top_12}
 
 -- the leftover is what the first splitting leaves of v without its largest part
@@ -39,3 +44,17 @@ overlapping lo hi {d} e q =
       gapless = omega (arith, l.low, l.high, pow_pos (top v));
       whole = omega (arith, l.low, pow_pos (top v));
     })
+
+-- ---- what the answer says of the interval
+pub double_refused : (lo hi : ℕ) (e : Refusal) → double_told (Err e) ≡ doubling lo hi → bad_interval lo hi ≡ true
+unfolding doubling
+double_refused lo hi e p =
+    ⊎_elim (λ (b : bad_interval lo hi ≡ true). b)
+    (λ (b : bad_interval lo hi ≡ false). absurd (refusal_above e (ap (λ (x : Doubling). x.number) (simp b at p))))
+    (true_or_false (bad_interval lo hi))
+
+pub double_taken : (lo hi : ℕ) {m : Moves} → double_told (Ok m) ≡ doubling lo hi → bad_interval lo hi ≡ false
+unfolding doubling
+double_taken lo hi {m} p =
+    ⊎_elim (λ (b : bad_interval lo hi ≡ true). absurd (let n : ◌≡◌ {A = ℕ} 0 6 = ap (λ (x : Doubling). x.number) (simp b at p) in omega arith))
+    (λ (b : bad_interval lo hi ≡ false). b) (true_or_false (bad_interval lo hi))

@@ -19,8 +19,11 @@ use lib.ListN.{length, set, drop, replicate}
 use lib.Seq.{sets, sets-eq}
 use Rattle.lists.specs.Sequence.{padded, sum}
 use Rattle.lists.proofs.Tests.{lt_or_le, or_left, or_right, true_or_false}
-use Rattle.interval.specs.Parts.{largest_to, top, left, parts_to, parts, splitting, bad_interval}
-use Rattle.interval.specs.declared.Splitting.{Splitting}
+use Rattle.std.specs.Prelude.{Ok, Err}
+use Rattle.refusals.specs.declared.Refusal.{Refusal}
+use Rattle.refusals.proofs.Positive.{refusal_above}
+use Rattle.interval.specs.declared.Parts.{Parts}
+use Rattle.interval.specs.Parts.{Splitting, split_told, largest_to, top, left, parts_to, parts, splitting, bad_interval}
 
 -- k is the largest with 2^k at most v + 1
 pub record Largest (v k : ℕ) : Type 0 where
@@ -253,3 +256,17 @@ splitting_count lo hi =
     ⊎_elim (λ (e : bad_interval lo hi ≡ true). simp e (omega arith))
     (λ (e : bad_interval lo hi ≡ false). let f = interval_fits lo hi e in simp e (parts_12 (hi - lo) (omega arith)))
     (true_or_false (bad_interval lo hi))
+
+-- ---- what the answer says of the interval
+pub split_refused : (lo hi : ℕ) (e : Refusal) → split_told (Err e) ≡ splitting lo hi → bad_interval lo hi ≡ true
+unfolding splitting
+split_refused lo hi e p =
+    ⊎_elim (λ (b : bad_interval lo hi ≡ true). b)
+    (λ (b : bad_interval lo hi ≡ false). absurd (refusal_above e (ap (λ (x : Splitting). x.number) (simp b at p))))
+    (true_or_false (bad_interval lo hi))
+
+pub split_taken : (lo hi : ℕ) {r : Parts} → split_told (Ok r) ≡ splitting lo hi → bad_interval lo hi ≡ false
+unfolding splitting
+split_taken lo hi {r} p =
+    ⊎_elim (λ (b : bad_interval lo hi ≡ true). absurd (let n : ◌≡◌ {A = ℕ} 0 6 = ap (λ (x : Splitting). x.number) (simp b at p) in omega arith))
+    (λ (b : bad_interval lo hi ≡ false). b) (true_or_false (bad_interval lo hi))

@@ -1,9 +1,11 @@
 -- The shorter splitting, for F and G: an interval's length as a power of two and what is left over (document 000's footnote, A7).
-use Rattle.std.specs.Prelude.{ℕ, ◌+◌, ◌-◌, ◌^◌, eqb}
+use Rattle.std.specs.Prelude.{ℕ, ◌+◌, ◌-◌, ◌^◌, eqb, Result, Ok, Err}
 use Rattle.refusals.specs.Numbers.{INTERVAL}
 use Rattle.lists.specs.Choice.{pick}
 use Rattle.interval.specs.Parts.{top, bad_interval}
-use Rattle.interval.specs.declared.Doubling.{Doubling}
+use Rattle.refusals.specs.Refusals.{number_of}
+use Rattle.refusals.specs.declared.Refusal.{Refusal}
+use Rattle.interval.specs.declared.Moves.{Moves}
 
 -- ---- of an interval with hi - lo = v: its length is m = v + 1, and the largest power of two w ≤ m is 2 ^ top v
 -- the leftover, m - w
@@ -16,6 +18,18 @@ moves_for k left = pick (eqb left 0) k (k + 1)
 
 unfoldable pub move_count : ℕ → ℕ
 move_count v = moves_for (top v) (leftover v)
+
+-- an answer: the number of the refusal or 0, the exponent of w, the leftover and the count
+pub record Doubling : Type 0 where
+  pub number : ℕ
+  pub exponent : ℕ
+  pub leftover : ℕ
+  pub count : ℕ
+
+-- what an answer of the code says
+abbrev pub double_told : Result Moves Refusal → Doubling
+double_told (Ok m) = record { number = 0; exponent = m.exponent; leftover = m.leftover; count = m.count }
+double_told (Err e) = record { number = number_of e; exponent = 0; leftover = 0; count = 0 }
 
 -- the answer for [lo, hi]: the exponent of w, the leftover and the count; or the number of the refusal and zeros
 unfoldable pub doubling : ℕ → ℕ → Doubling

@@ -1,10 +1,12 @@
 -- The splitting of an interval (document 000, function d).
-use Rattle.std.specs.Prelude.{ℕ, zero, suc, ◌+◌, ◌-◌, ◌^◌, Bool, ◌||◌, List, [], ◌∷◌, ltb, leb, length, replicate}
+use Rattle.std.specs.Prelude.{ℕ, zero, suc, ◌+◌, ◌-◌, ◌^◌, Bool, ◌||◌, List, [], ◌∷◌, ltb, leb, length, replicate, Result, Ok, Err}
 use Rattle.limits.specs.Limits.{max_interval, max_parts}
 use Rattle.refusals.specs.Numbers.{INTERVAL}
 use Rattle.lists.specs.Choice.{pick}
 use Rattle.lists.specs.Sequence.{padded}
-use Rattle.interval.specs.declared.Splitting.{Splitting}
+use Rattle.refusals.specs.Refusals.{number_of}
+use Rattle.refusals.specs.declared.Refusal.{Refusal}
+use Rattle.interval.specs.declared.Parts.{Parts}
 
 -- the largest k, up to b, with 2^k - 1 at most v
 unfoldable pub largest_to : ℕ → ℕ → ℕ
@@ -32,6 +34,17 @@ parts v = parts_to v v
 -- an interval that is refused: lo above hi, or hi above the largest
 abbrev pub bad_interval : ℕ → ℕ → Bool
 bad_interval lo hi = ltb hi lo || ltb max_interval hi
+
+-- an answer: the number of the refusal or 0, the parts, and their count
+pub record Splitting : Type 0 where
+  pub number : ℕ
+  pub parts : List ℕ
+  pub count : ℕ
+
+-- what an answer of the code says
+abbrev pub split_told : Result Parts Refusal → Splitting
+split_told (Ok p) = record { number = 0; parts = p.ks; count = p.count }
+split_told (Err e) = record { number = number_of e; parts = replicate max_parts 0; count = 0 }
 
 -- the answer for [lo, hi]: the parts, zeros up to as many places as there can be parts, and the count; or the number of the refusal and zeros
 unfoldable pub splitting : ℕ → ℕ → Splitting

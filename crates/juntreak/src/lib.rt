@@ -34,7 +34,10 @@ use session::Session;
 pub extern "C" fn juntreak_check_book(book: &[u8]) -> u32
     ensures { result ≡ code_of (reading book.now) }
 {
-    shell::book_code(book::read(book))
+    if let Err(f) = book::read(book) {
+        return shell::book_code(f);
+    }
+    0
 }
 
 // The same, with the table of a book that is accepted.
@@ -42,9 +45,13 @@ pub extern "C" fn juntreak_check_book(book: &[u8]) -> u32
 pub extern "C" fn juntreak_read(book: &[u8], table: &mut [u8; TABLE_BYTES]) -> u32
     ensures { (result ≡ code_of (reading book.now)) × (table.new ≡ leaves (reading book.now).number (written (reading book.now).table table.old) table.old) }
 {
-    let got = book::read(book);
-    shell::put_table(got.number, got.table, table);
-    shell::book_code(got)
+    match book::read(book) {
+        Ok(t) => {
+            flat::write_table(t, table);
+            0
+        }
+        Err(f) => shell::book_code(f),
+    }
 }
 
 // 0 for typed rules that are accepted, or the number of the refusal and 256 times its place or line; with the table of those accepted.
@@ -52,9 +59,13 @@ pub extern "C" fn juntreak_read(book: &[u8], table: &mut [u8; TABLE_BYTES]) -> u
 pub extern "C" fn juntreak_read_text(text: &[u8], table: &mut [u8; TABLE_BYTES]) -> u64
     ensures { (result ≡ text_answer (typed text.now)) × (table.new ≡ leaves (typed text.now).number (written (typed text.now).table table.old) table.old) }
 {
-    let answer = text::read(text);
-    shell::put_table(answer.number, answer.table, table);
-    shell::text_code(answer)
+    match text::read(text) {
+        Ok(t) => {
+            flat::write_table(t, table);
+            0
+        }
+        Err(f) => shell::text_code(f),
+    }
 }
 
 // The book of the table: 0 and 65536 times its length in bytes, or the number of the refusal.
@@ -63,8 +74,10 @@ pub extern "C" fn juntreak_write(table: &[u8; TABLE_BYTES], out: &mut [u8]) -> u
     ensures { (result ≡ write_answer (writing (table_from table.now) (length out.old))) × (out.new ≡ written_into (table_from table.now) out.old) }
 {
     let t = flat::read_table(table);
-    let w = book::write(t, out);
-    w.number as u32 + 65536 * (w.length as u32)
+    match book::write(t, out) {
+        Ok(length) => 65536 * (length as u32),
+        Err(e) => e.number() as u32,
+    }
 }
 
 // The delay of a rule of the table.
@@ -73,8 +86,10 @@ pub extern "C" fn juntreak_delay(table: &[u8; TABLE_BYTES], rule: u32) -> u32
     ensures { result ≡ delay_answer (rule_delay (table_from table.now) rule) }
 {
     let t = flat::read_table(table);
-    let r = table::delay(t, rule as usize);
-    r.number as u32 + 65536 * (r.delay as u32)
+    match table::delay(t, rule as usize) {
+        Ok(delay) => 65536 * (delay as u32),
+        Err(e) => e.number() as u32,
+    }
 }
 
 // The splitting of [lo, hi], with its parts.
@@ -82,10 +97,14 @@ pub extern "C" fn juntreak_delay(table: &[u8; TABLE_BYTES], rule: u32) -> u32
 pub extern "C" fn juntreak_split(lo: u16, hi: u16, parts: &mut [u8; MAX_PARTS]) -> u32
     ensures { (result ≡ split_answer (splitting lo hi)) × (parts.new ≡ leaves (splitting lo hi).number (splitting lo hi).parts parts.old) }
 {
-    let s = interval::split(lo, hi);
-    let ks = s.parts;
-    shell::put_parts(s.number, ks, parts);
-    s.number as u32 + 256 * (s.count as u32)
+    match interval::split(lo, hi) {
+        Ok(s) => {
+            let ks = s.ks;
+            *parts = ks;
+            256 * (s.count as u32)
+        }
+        Err(e) => e.number() as u32,
+    }
 }
 
 // The shorter splitting of [lo, hi], for F and G: the exponent, the count of moves and the leftover.
@@ -93,11 +112,12 @@ pub extern "C" fn juntreak_split(lo: u16, hi: u16, parts: &mut [u8; MAX_PARTS]) 
 pub extern "C" fn juntreak_moves(lo: u16, hi: u16) -> u64
     ensures { result ≡ moves_answer (doubling lo hi) }
 {
-    let d = interval::double(lo, hi);
-    d.number as u64
-        + 256 * (d.exponent as u64)
-        + 65536 * (d.count as u64)
-        + 4294967296 * (d.leftover as u64)
+    match interval::double(lo, hi) {
+        Ok(m) => {
+            256 * (m.exponent as u64) + 65536 * (m.count as u64) + 4294967296 * (m.leftover as u64)
+        }
+        Err(e) => e.number() as u64,
+    }
 }
 
 // The verdicts of a rule on a whole trace.
@@ -112,7 +132,7 @@ pub extern "C" fn juntreak_verdicts(
     ensures { Answered (table_from table.now) rule states.now scratch.old out.old result scratch.new out.new }
 {
     let t = flat::read_table(table);
-    verdict::verdicts(t, rule as usize, states, scratch, out) as u32
+    shell::code(verdict::verdicts(t, rule as usize, states, scratch, out))
 }
 
 // What is known of a rule at a tick when these states were seen.
@@ -153,9 +173,13 @@ pub extern "C" fn juntreak_simplify(table: &mut [u8; TABLE_BYTES]) -> u32
     ensures { Simplifies table.old result table.new }
 {
     let t = flat::read_table(table);
-    let r = simplify::simplify(t);
-    shell::put_table(r.number, r.table, table);
-    r.number as u32
+    match simplify::simplify(t) {
+        Ok(u) => {
+            flat::write_table(u, table);
+            0
+        }
+        Err(e) => e.number() as u32,
+    }
 }
 
 // ---- sessions
@@ -170,9 +194,7 @@ pub extern "C" fn juntreak_open(
     ensures { (result ≡ (opening (table_from table.now) rule).number) × (session.new ≡ stored (opening (table_from table.now) rule) session.old) }
 {
     let t = flat::read_table(table);
-    let o = Session::open(t, rule as usize);
-    shell::put_session(o.number, o.session, session);
-    o.number as u32
+    shell::put_session(Session::open(t, rule as usize), session)
 }
 
 // A narrow session as one with a wide count.
@@ -183,10 +205,7 @@ pub extern "C" fn juntreak_widen(
 ) -> u32
     ensures { (result ≡ (widening (wide_of (narrow_from narrow.now))).number) × (session.new ≡ stored (widening (wide_of (narrow_from narrow.now))) session.old) }
 {
-    let n = flat::read_narrow(narrow);
-    let w = n.widen();
-    shell::put_session(w.number, w.session, session);
-    w.number as u32
+    shell::put_session(flat::read_narrow(narrow).widen(), session)
 }
 
 // The verdicts that a block of states settles.
@@ -241,9 +260,7 @@ pub extern "C" fn juntreak_open_noted(
     ensures { (result ≡ (opening (table_from table.now) rule).number) × (session.new ≡ stored (opening (table_from table.now) rule) session.old) × (registers.new ≡ after_call (open_outcome (opening (table_from table.now) rule)) registers.old) }
 {
     let t = flat::read_table(table);
-    let o = noted::open(registers, t, rule as usize);
-    shell::put_session(o.number, o.session, session);
-    o.number as u32
+    shell::put_session(noted::open(registers, t, rule as usize), session)
 }
 
 #[unsafe(no_mangle)]
@@ -255,9 +272,7 @@ pub extern "C" fn juntreak_widen_noted(
     ensures { (result ≡ (widening (wide_of (narrow_from narrow.now))).number) × (session.new ≡ stored (widening (wide_of (narrow_from narrow.now))) session.old) × (registers.new ≡ after_call (widen_outcome (widening (wide_of (narrow_from narrow.now)))) registers.old) }
 {
     let n = flat::read_narrow(narrow);
-    let w = noted::widen(registers, n);
-    shell::put_session(w.number, w.session, session);
-    w.number as u32
+    shell::put_session(noted::widen(registers, n), session)
 }
 
 #[unsafe(no_mangle)]
@@ -309,7 +324,7 @@ pub extern "C" fn juntreak_register_write(
 ) -> u32
     ensures { (result ≡ place_number place) × (registers.new ≡ after_write place value registers.old) }
 {
-    registers::write(registers, place, value) as u32
+    shell::code(registers::write(registers, place, value))
 }
 
 // The byte at a place of the registers: 0 and 256 times the byte, or the number of the refusal.
@@ -317,11 +332,13 @@ pub extern "C" fn juntreak_register_write(
 pub extern "C" fn juntreak_register_read(registers: &[u8; STATUS_BYTES], place: usize) -> u32
     ensures { result ≡ register_answer (reading_of place registers.now) }
 {
-    let r = registers::read(registers, place);
-    r.number as u32 + 256 * (r.value as u32)
+    match registers::read(registers, place) {
+        Ok(value) => 256 * (value as u32),
+        Err(e) => e.number() as u32,
+    }
 }
 
-// ---- the scheduler: each function is one pass over the list, the work on what it has found, and the change of the list
+// ---- the scheduler
 
 // A block is left with the record at a place of the list.
 #[unsafe(no_mangle)]
@@ -334,11 +351,7 @@ pub extern "C" fn juntreak_leave(
 ) -> u32
     ensures { record { answer = result; records = list.new; waiting = waiting.new } ≡ leave_call (leave_effect (table_from table.now) list.old place block.now waiting.old) }
 {
-    let s = records::scan(list);
-    let k = shell::leave(table, s, place, block, waiting);
-    let change = k.change;
-    records::apply(list, change);
-    k.number
+    shell::leave(list, table, place, block, waiting)
 }
 
 // The first record after the place that has a block waiting is fed it.
@@ -354,11 +367,7 @@ pub extern "C" fn juntreak_turn(
 ) -> u64
     ensures { record { answer = result; records = list.new; history = history.new; scratch = scratch.new; out = out.new } ≡ turn_call (turn_effect (table_from table.now) list.old place history.old waiting.now scratch.old out.old) }
 {
-    let s = records::scan(list);
-    let k = shell::turn(table, s, place, history, waiting, scratch, out);
-    let change = k.change;
-    records::apply(list, change);
-    k.code
+    shell::turn(list, table, place, history, waiting, scratch, out)
 }
 
 // The record at a place of the list is closed.
@@ -373,9 +382,5 @@ pub extern "C" fn juntreak_close_record(
 ) -> u64
     ensures { record { answer = result; records = list.new; scratch = scratch.new; out = out.new } ≡ close_call (close_effect (table_from table.now) list.old place history.now scratch.old out.old) }
 {
-    let s = records::scan(list);
-    let k = shell::close_record(table, s, place, history, scratch, out);
-    let change = k.change;
-    records::apply(list, change);
-    k.code
+    shell::close_record(list, table, place, history, scratch, out)
 }

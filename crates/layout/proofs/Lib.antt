@@ -6,3 +6,5 @@ pub mod Columns
 pub mod Fitting
 -- the registers of the nodes, one after the other
 pub mod Runs
+-- how many bits of a constant are set
+pub mod Constants

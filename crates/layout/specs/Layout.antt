@@ -1,7 +1,8 @@
 -- The registers of a table's nodes in a scratch, and what a step at a node leaves there.
 use Rattle.std.specs.Prelude.{◌≡◌, Bool, true, List, ℕ, ◌+◌, ◌-◌, ◌*◌, ◌≤◌, ◌<◌, length, get_or, take, drop}
 use Rattle.limits.specs.Limits.{max_nodes, max_trace, register_words, scratch_words}
-use Rattle.lists.specs.Bits.{pack}
+use Rattle.lists.specs.Bits.{pack, words}
+use Rattle.operators.specs.declared.Places.{Places}
 use Rattle.column.specs.Column.{register}
 use Rattle.table.specs.Nodes.{no_node}
 use Rattle.table.specs.Sound.{fits}
@@ -15,6 +16,17 @@ left_place = max_nodes * register_words
 
 abbrev pub work_place : ℕ
 work_place = left_place + register_words
+
+-- the registers of node x at place i, and of its operands, for columns of n bits
+abbrev pub places : Node → ℕ → ℕ → Places
+places x i n = record {
+  left = register_words * x.left;
+  right = register_words * x.right;
+  result = register_words * i;
+  copy = left_place;
+  work = work_place;
+  words = words n;
+}
 
 -- a node's register at b, of which m words are used, in a scratch with room for all
 pub record Place (b m : ℕ) (xs : List ℕ) : Type 0 where

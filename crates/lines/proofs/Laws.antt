@@ -1,5 +1,5 @@
 -- What the line reader's contract comes to: lines byte by byte, parts of a text, and a text in parts. Assumes nothing.
-use mathlib.Core.Path.{◌≡◌, refl, sym, ap, ap₂, subst, ◌∙◌}
+use mathlib.Core.Path.{◌≡◌, refl, sym, ap, ap₂, ◌∙◌}
 use mathlib.Core.Logic.{⊎_elim}
 use mathlib.Core.Bool.{Bool, true, false, ◌&&◌, false≢true, true≢false}
 use mathlib.Core.List.{List, [], ◌∷◌, ◌++◌, map, append_assoc, append-nil}
@@ -8,7 +8,9 @@ use native.Mathlib.Nat.{add-zero}
 use native.Mathlib.Numerals.{add-one}
 use native.Mathlib.Omega.{arith}
 use borrow.Author.Tests.{eq-eqb, ne_eqb, lt-ltb, le-ltb, le-leb, lt-leb, leb-true, ltb-false}
-use lib.ListN.{length, take, drop, set, get_or, drop_of_length-le, length-append, length-set}
+use Rattle.std.proofs.Common.{Option, Some, None}
+use Rattle.std.specs.Option.{is_some, unwrap_or}
+use lib.ListN.{length, take, drop, set, get_or, drop_of_length-le, length-append, length-set, length-drop}
 use lib.Dec.{eqb, leb, ltb}
 use lib.Seq.{drop-cons, drop-drop, sets}
 use Rattle.lists.specs.Choice.{pick}
@@ -26,11 +28,11 @@ pick_same false = refl
 
 -- ---- `scanned` at a place of a list: past its end, at a line end, at any other byte
 module _ (s : List ℕ) (i : ℕ) (l : Line) where
-  pub scan_none : length s ≤ i → scanned (drop i s) i l ≡ record { at = i; line = l; ended = false }
+  pub scan_none : length s ≤ i → scanned (drop i s) i l ≡ record { line = l; end = None }
   unfolding scanned
   scan_none h = rw (drop_of_length-le s h)
 
-  pub scan_end : i < length s → get_or s i 0 ≡ 10 → scanned (drop i s) i l ≡ record { at = i + 1; line = l; ended = true }
+  pub scan_end : i < length s → get_or s i 0 ≡ 10 → scanned (drop i s) i l ≡ record { line = l; end = Some (i + 1) }
   unfolding scanned
   scan_end h e = rw (drop-cons s i 0 h, eq-eqb (get_or s i 0) 10 e)
 
@@ -186,45 +188,40 @@ pub text_is : (text : List ℕ) → parsed_from empty text ≡ parsed_lines text
 text_is = text_from []
 
 -- ---- where a scan stops
+abbrev ended : Scan → Bool
+ended x = is_some x.end
+
+abbrev place : Scan → ℕ
+place x = unwrap_or x.end 0
+
 module _ (b at : ℕ) (bs : List ℕ) (l : Line) where
   abbrev next : Scan
   next = scanned bs (at + 1) (with_byte l b)
 
-  within_step : (t : Bool) → (next.ended ≡ true → (at + 1 < next.at) × (next.at ≤ at + 1 + length bs))
-      → (pick t (record { at = at + 1; line = l; ended = true }) next).ended ≡ true
-      → (at < (pick t (record { at = at + 1; line = l; ended = true }) next).at)
-      × ((pick t (record { at = at + 1; line = l; ended = true }) next).at ≤ at + suc (length bs))
+  within_step : (t : Bool) → (ended next ≡ true → (at + 1 < (place next)) × ((place next) ≤ at + 1 + length bs))
+      → ended (pick t (record { line = l; end = Some (at + 1) }) next) ≡ true
+      → (at < (place (pick t (record { line = l; end = Some (at + 1) }) next)))
+      × ((place (pick t (record { line = l; end = Some (at + 1) }) next)) ≤ at + suc (length bs))
   within_step true ih e = (omega arith, omega arith)
   within_step false ih e = let w = ih e in (omega (arith, w.0), omega (arith, w.1))
 
-  past_step : (t : Bool) → (next.ended ≡ false → next.at ≡ at + 1 + length bs)
-      → (pick t (record { at = at + 1; line = l; ended = true }) next).ended ≡ false
-      → (pick t (record { at = at + 1; line = l; ended = true }) next).at ≡ at + suc (length bs)
-  past_step true ih e = absurd (true≢false e)
-  past_step false ih e = let w = ih e in omega (arith, w)
-
-pub scan_within : (xs : List ℕ) (at : ℕ) (l : Line) → (scanned xs at l).ended ≡ true → (at < (scanned xs at l).at) × ((scanned xs at l).at ≤ at + length xs)
+pub scan_within : (xs : List ℕ) (at : ℕ) (l : Line) → ended (scanned xs at l) ≡ true → (at < (place (scanned xs at l))) × ((place (scanned xs at l)) ≤ at + length xs)
 unfolding scanned
 scan_within [] at l e = absurd (false≢true e)
 scan_within (b ∷ bs) at l e = within_step b at bs l (eqb b 10) (scan_within bs (at + 1) (with_byte l b)) e
 
-pub scan_past : (xs : List ℕ) (at : ℕ) (l : Line) → (scanned xs at l).ended ≡ false → (scanned xs at l).at ≡ at + length xs
-unfolding scanned
-scan_past [] at l e = omega arith
-scan_past (b ∷ bs) at l e = past_step b at bs l (eqb b 10) (scan_past bs (at + 1) (with_byte l b)) e
-
 -- ---- a part that is read into a block
 -- no line end in it: the line so far
 part_step : (t : Bool) (room b at : ℕ) (bs : List ℕ) (l : Line)
-    → ((next b at bs l).ended ≡ false → filling (suc room) (with_byte l b) bs ≡ record { states = []; line = (next b at bs l).line; used = length bs; is_bad = false })
-    → (pick t (record { at = at + 1; line = l; ended = true }) (next b at bs l)).ended ≡ false
+    → (ended (next b at bs l) ≡ false → filling (suc room) (with_byte l b) bs ≡ record { states = []; line = (next b at bs l).line; used = length bs; is_bad = false })
+    → ended (pick t (record { line = l; end = Some (at + 1) }) (next b at bs l)) ≡ false
     → pick t (line_ended (parsed_of l) 1 (filling room empty bs)) (preceded [] 1 (filling (suc room) (with_byte l b) bs))
-    ≡ record { states = []; line = (pick t (record { at = at + 1; line = l; ended = true }) (next b at bs l)).line; used = suc (length bs); is_bad = false }
+    ≡ record { states = []; line = (pick t (record { line = l; end = Some (at + 1) }) (next b at bs l)).line; used = suc (length bs); is_bad = false }
 part_step true room b at bs l ih e = absurd (true≢false e)
 part_step false room b at bs l ih e =
     ap (preceded [] 1) (ih e) ∙ (let w : 1 + length bs ≡ suc (length bs) = omega arith in rw w)
 
-fill_part : (room : ℕ) (xs : List ℕ) (at : ℕ) (l : Line) → (scanned xs at l).ended ≡ false
+fill_part : (room : ℕ) (xs : List ℕ) (at : ℕ) (l : Line) → ended (scanned xs at l) ≡ false
     → filling (suc room) l xs ≡ record { states = []; line = (scanned xs at l).line; used = length xs; is_bad = false }
 unfolding scanned filling
 fill_part room [] at l e = refl
@@ -240,22 +237,22 @@ abbrev line_then : ℕ → List ℕ → Line → ℕ → Filling
 line_then room xs l n = line_ended (parsed_of l) n (filling room empty (drop n xs))
 
 end_step : (t : Bool) (room b at : ℕ) (bs : List ℕ) (l : Line)
-    → ((next b at bs l).ended ≡ true → (at + 1 < (next b at bs l).at)
-    × (filling (suc room) (with_byte l b) bs ≡ line_then room bs (next b at bs l).line ((next b at bs l).at - (at + 1))))
-    → (q : Scan) → q ≡ pick t (record { at = at + 1; line = l; ended = true }) (next b at bs l) → q.ended ≡ true
+    → (ended (next b at bs l) ≡ true → (at + 1 < (place (next b at bs l)))
+    × (filling (suc room) (with_byte l b) bs ≡ line_then room bs (next b at bs l).line ((place (next b at bs l)) - (at + 1))))
+    → (q : Scan) → q ≡ pick t (record { line = l; end = Some (at + 1) }) (next b at bs l) → ended q ≡ true
     → pick t (line_ended (parsed_of l) 1 (filling room empty bs)) (preceded [] 1 (filling (suc room) (with_byte l b) bs))
-    ≡ line_then room (b ∷ bs) q.line (q.at - at)
+    ≡ line_then room (b ∷ bs) q.line ((place q) - at)
 end_step true room b at bs l ih q s e =
-    let g : q.at - at ≡ suc 0 = (let w = ap (λ (x : Scan). x.at) s in omega (arith, w)) in
+    let g : (place q) - at ≡ suc 0 = (let w = ap (λ (x : Scan). (place x)) s in omega (arith, w)) in
     rw (g, ap (λ (x : Scan). x.line) s)
 end_step false room b at bs l ih q s e =
-    let w = ih (sym (ap (λ (x : Scan). x.ended) s) ∙ e) in
-    let a = ap (λ (x : Scan). x.at) s in
-    let g : q.at - at ≡ suc ((next b at bs l).at - (at + 1)) = omega (arith, w.0, a) in
+    let w = ih (sym (ap (λ (x : Scan). ended x) s) ∙ e) in
+    let a = ap (λ (x : Scan). (place x)) s in
+    let g : (place q) - at ≡ suc ((place (next b at bs l)) - (at + 1)) = omega (arith, w.0, a) in
     rw (g, ap (λ (x : Scan). x.line) s, w.1) (after_one (parsed_of (next b at bs l).line) _ _)
 
-fill_end : (room : ℕ) (xs : List ℕ) (at : ℕ) (l : Line) → (scanned xs at l).ended ≡ true
-    → filling (suc room) l xs ≡ line_then room xs (scanned xs at l).line ((scanned xs at l).at - at)
+fill_end : (room : ℕ) (xs : List ℕ) (at : ℕ) (l : Line) → ended (scanned xs at l) ≡ true
+    → filling (suc room) l xs ≡ line_then room xs (scanned xs at l).line ((place (scanned xs at l)) - at)
 unfolding scanned filling
 fill_end room [] at l e = absurd (false≢true e)
 fill_end room (b ∷ bs) at l e =
@@ -312,21 +309,21 @@ module _ {s block₀ block : List ℕ} {at count i k : ℕ} {line l : Line} (r :
   room h = omega (arith, r.size)
 
   -- a line ended: its reading, and then the rest
-  line_text : k < length block → q.ended ≡ true
-      → filling (length block₀ - k) l (drop i s) ≡ line_ended (parsed_of q.line) (q.at - i) (filling (length block₀ - (k + 1)) empty (drop q.at s))
+  line_text : k < length block → ended q ≡ true
+      → filling (length block₀ - k) l (drop i s) ≡ line_ended (parsed_of q.line) ((place q) - i) (filling (length block₀ - (k + 1)) empty (drop (place q) s))
   line_text h e =
       let w = scan_within (drop i s) i l e in
-      let j : i + (q.at - i) ≡ q.at = omega (arith, w.0) in
-      rw (room h, fill_end (length block₀ - (k + 1)) (drop i s) i l e, drop-drop (q.at - i) i s, j)
+      let j : i + ((place q) - i) ≡ (place q) = omega (arith, w.0) in
+      rw (room h, fill_end (length block₀ - (k + 1)) (drop i s) i l e, drop-drop ((place q) - i) i s, j)
 
   -- one state more
-  reached_more : k < length block → q.ended ≡ true → is_state q.line ≡ true → Reached s block₀ at count line (set block k q.line.value) q.at empty (k + 1)
+  reached_more : k < length block → ended q ≡ true → is_state q.line ≡ true → Reached s block₀ at count line (set block k q.line.value) (place q) empty (k + 1)
   reached_more h e v =
-      let t : i - at + (q.at - i) ≡ q.at - at = omega (arith, r.from, (scan_within (drop i s) i l e).0) in
+      let t : i - at + ((place q) - i) ≡ (place q) - at = omega (arith, r.from, (scan_within (drop i s) i l e).0) in
       let z : parsed_of q.line ≡ state q.line.value = rw v in
       record {
         done = r.done ++ (q.line.value ∷ []);
-        text = r.text ∙ rw (line_text h e, z) (after_after r.done (i - at) q.line.value (q.at - i) _ ∙ rw t);
+        text = r.text ∙ rw (line_text h e, z) (after_after r.done (i - at) q.line.value ((place q) - i) _ ∙ rw t);
         put = rw (r.put, r.place) (sym (sets_append block₀ count r.done (q.line.value ∷ [])));
         place = rw (length-append r.done (q.line.value ∷ [])) (omega (arith, r.place));
         from = omega (arith, r.from, (scan_within (drop i s) i l e).0);
@@ -358,37 +355,36 @@ module _ {s block₀ block : List ℕ} {at count i k : ℕ} {line l : Line} (r :
       (λ (b : ltb i (length s) ≡ false). reached_all (ltb-false i (length s) b))
       (true_or_false (ltb i (length s)))
 
-  reached_part : k < length block → q.ended ≡ false → Filling_is s block₀ at count line block (record { at = q.at; line = q.line; count = k; bad = false })
-  reached_part h e =
-      reached_end q.line (length (drop i s)) q.at false (rw (room h) (fill_part (length block₀ - (k + 1)) (drop i s) i l e)) (sym (scan_past (drop i s) i l e))
+  reached_part : k < length block → ended q ≡ false → i < length s → Filling_is s block₀ at count line block (record { at = length s; line = q.line; count = k; bad = false })
+  reached_part h e le =
+      reached_end q.line (length (drop i s)) (length s) false (rw (room h) (fill_part (length block₀ - (k + 1)) (drop i s) i l e)) (omega (arith, length-drop i s))
 
-  reached_bad : k < length block → q.ended ≡ true → is_state q.line ≡ false
-      → Filling_is s block₀ at count line block (record { at = q.at; line = empty; count = k; bad = true })
+  reached_bad : k < length block → ended q ≡ true → is_state q.line ≡ false
+      → Filling_is s block₀ at count line block (record { at = (place q); line = empty; count = k; bad = true })
   reached_bad h e v =
       let z : parsed_of q.line ≡ bad = rw v in
-      reached_end empty (q.at - i) q.at true (line_text h e ∙ rw z) (omega (arith, (scan_within (drop i s) i l e).0))
+      reached_end empty ((place q) - i) (place q) true (line_text h e ∙ rw z) (omega (arith, (scan_within (drop i s) i l e).0))
 
   -- the same for what the scan answered
   module _ (x : Scan) (is : x ≡ q) (h : k < length block) where
-    pub more_read : x.ended ≡ true → is_state x.line ≡ true → Reached s block₀ at count line (set block k x.line.value) x.at empty (k + 1)
-    more_read =
-        subst (λ (y : Scan). y.ended ≡ true → is_state y.line ≡ true → Reached s block₀ at count line (set block k y.line.value) y.at empty (k + 1))
-        (sym is) (reached_more h)
+    pub part_read : x.end ≡ None → i < length s → Filling_is s block₀ at count line block (record { at = length s; line = x.line; count = k; bad = false })
+    part_read e le = rw is (reached_part h (ap is_some (ap (λ (y : Scan). y.end) (sym is) ∙ e)) le)
 
-    pub part_read : x.ended ≡ false → Filling_is s block₀ at count line block (record { at = x.at; line = x.line; count = k; bad = false })
-    part_read =
-        subst (λ (y : Scan). y.ended ≡ false → Filling_is s block₀ at count line block (record { at = y.at; line = y.line; count = k; bad = false }))
-        (sym is) (reached_part h)
+    module _ (j : ℕ) (e : x.end ≡ Some j) where
+      stop : ended q ≡ true
+      stop = ap is_some (ap (λ (y : Scan). y.end) (sym is) ∙ e)
 
-    pub bad_read : x.ended ≡ true → is_state x.line ≡ false → Filling_is s block₀ at count line block (record { at = x.at; line = empty; count = k; bad = true })
-    bad_read =
-        subst (λ (y : Scan). y.ended ≡ true → is_state y.line ≡ false → Filling_is s block₀ at count line block (record { at = y.at; line = empty; count = k; bad = true }))
-        (sym is) (reached_bad h)
+      there : place q ≡ j
+      there = ap (λ (o : Option ℕ). unwrap_or o 0) (ap (λ (y : Scan). y.end) (sym is) ∙ e)
 
-    pub further : x.ended ≡ true → i < length s → length s - x.at < length s - i
-    further =
-        subst (λ (y : Scan). y.ended ≡ true → i < length s → length s - y.at < length s - i)
-        (sym is) (λ e lt. omega (arith, (scan_within (drop i s) i l e).0))
+      pub more_read : is_state x.line ≡ true → Reached s block₀ at count line (set block k x.line.value) j empty (k + 1)
+      more_read v = rw (is, ← there) (reached_more h stop (rw is at v))
+
+      pub bad_read : is_state x.line ≡ false → Filling_is s block₀ at count line block (record { at = j; line = empty; count = k; bad = true })
+      bad_read v = rw (← there) (reached_bad h stop (rw is at v))
+
+      pub further : i < length s → length s - j < length s - i
+      further lt = rw (← there) (omega (arith, (scan_within (drop i s) i l stop).0))
 
 -- ---- a text in parts: what the bytes that were read say, whatever follows
 abbrev pub bad_if : Bool → List Parsed

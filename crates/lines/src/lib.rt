@@ -47,29 +47,29 @@ pub fn fill(part: &[u8], at: usize, line: Line, block: &mut [u32], count: usize)
     let mut i = at;
     let mut l = line;
     let mut k = count;
+    // Two places, of the part and of the block, which move at different paces.
     while (i < part.len()) & (k < block.len()) {
-        let q = scan_line(part, i, l);
-        let m = q.line;
-        if !q.ended {
+        let scan = scan_line(part, i, l);
+        let Some(next) = scan.end else {
             return Filled {
-                at: q.at,
-                line: m,
+                at: part.len(),
+                line: scan.line,
                 count: k,
                 bad: false,
             };
-        }
-        if !is_state(m) {
+        };
+        if !is_state(scan.line) {
             return Filled {
-                at: q.at,
+                at: next,
                 line: start(),
                 count: k,
                 bad: true,
             };
         }
-        block[k] = m.value as u32;
+        block[k] = scan.line.value as u32;
         k += 1;
         l = start();
-        i = q.at;
+        i = next;
     }
     Filled {
         at: i,
@@ -79,56 +79,41 @@ pub fn fill(part: &[u8], at: usize, line: Line, block: &mut [u32], count: usize)
     }
 }
 
-// The end of a line, or of the part: the place after it, the line, and whether it ended.
+// A line up to its end, with the place after it, or up to the end of the part.
 #[derive(Clone, Copy)]
 struct Scan {
-    at: usize,
     line: Line,
-    ended: bool,
+    end: Option<usize>,
 }
 
 // The bytes of the part from a place on, up to the next line end or the end of the part.
 fn scan_line(part: &[u8], at: usize, line: Line) -> Scan
     ensures { result ≡ scanned (drop at part.now) at line }
 {
-    let mut i = at;
     let mut l = line;
-    while i < part.len() {
-        let b = part[i];
-        if b == 10 {
+    // The place behind the line end is the answer.
+    for i in at..part.len() {
+        if part[i] == b'\n' {
             return Scan {
-                at: i + 1,
                 line: l,
-                ended: true,
+                end: Some(i + 1),
             };
         }
-        l = with_byte(l, b);
-        i += 1;
+        l = with_byte(l, part[i]);
     }
-    Scan {
-        at: i,
-        line: l,
-        ended: false,
-    }
+    Scan { line: l, end: None }
 }
 
 // The line with one byte more, which is no line end.
+#[tactic(auto, unfolding(crate::specs::Lines::with_byte))]
 fn with_byte(l: Line, b: u8) -> Line
     ensures { result ≡ with_byte l b }
 {
-    let digits = l.digits;
-    let value = l.value;
-    if digits < MAX_DIGITS {
-        if 48 <= b {
-            if b <= 57 {
-                if value <= MAX_STATE {
-                    return Line {
-                        digits: digits + 1,
-                        value: value * 10 + (b as u64 - 48),
-                    };
-                }
-            }
-        }
+    if l.digits < MAX_DIGITS && b.is_ascii_digit() && l.value <= MAX_STATE {
+        return Line {
+            digits: l.digits + 1,
+            value: l.value * 10 + u64::from(b - b'0'),
+        };
     }
     Line {
         digits: BAD,
@@ -140,5 +125,5 @@ fn with_byte(l: Line, b: u8) -> Line
 fn is_state(l: Line) -> bool
     ensures { result ≡ is_state l }
 {
-    (1 <= l.digits) & (l.digits <= MAX_DIGITS) & (l.value <= MAX_STATE)
+    (1..=MAX_DIGITS).contains(&l.digits) && l.value <= MAX_STATE
 }

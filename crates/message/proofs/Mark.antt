@@ -27,7 +27,7 @@ start_below bs (suc p) = go (eqb (get_or bs p 0) 10) (start_below bs p)
     go false h = omega arith
 
 -- a place of a line is shown, and so is the line's end where it is the place
-from_below : (s e p : ℕ) → s ≤ p → p ≤ e → (shown_from s e p ≤ p) × (min (p + 1) e ≤ shown_from s e p + shown_bytes)
+pub from_below : (s e p : ℕ) → s ≤ p → p ≤ e → (shown_from s e p ≤ p) × (min (p + 1) e ≤ shown_from s e p + shown_bytes)
 from_below s e p h k =
     ⊎_elim
     (λ (l : shown_bytes < e - s). rw (lt-ltb shown_bytes (e - s) l) (omega arith, omega arith))

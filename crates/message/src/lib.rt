@@ -1,13 +1,32 @@
 // What the program rules tells of a text that is refused: a line for machines, then what is wrong, for people.
 #![tactic(auto)]
 
-ghost use Rattle.std.specs.Prelude.{◌≡◌, ◌+◌, ◌-◌, ◌≤◌, min, length, drop};
+ghost use Rattle.std.specs.Prelude.{◌≡◌, ◌+◌, ◌-◌, ◌≤◌, min, length};
 ghost use Rattle.lists.specs.Ascii.{ascii};
 ghost use Rattle.lists.specs.Choice.{pick};
 ghost use Rattle.rows.specs.Rows.{Put};
 ghost use Rattle.message.specs.Message.{max_text, refusal_message, long_message, machine_line, sentences, said, place_shown, where_line, shown_line, mark_line};
-ghost use Rattle.message.specs.Message.{placed as is_placed, shown, dots, lines_before, line_start, line_end, shown_bytes, shown_from, shown_byte, mark_at};
-ghost use Rattle.message.specs.Code.Steps.{Fit, machine_most, sentence_most, place_most, where_most, line_most, indent_most, mark_most};
+ghost use Rattle.message.specs.Message.{placed as is_placed, shown, dots, lines_before, line_start, up_to_end, shown_bytes, shown_from, shown_byte, mark_at};
+ghost use Rattle.message.specs.Code.Steps.{PutInRoom, indent_most};
+
+use refusals::Refusal;
+
+// The numbers that are told of a text.
+const ARGUMENT: u8 = Refusal::Argument as u8;
+
+const INTERVAL: u8 = Refusal::Interval as u8;
+
+const FULL: u8 = Refusal::Full as u8;
+
+const LONG: u8 = Refusal::Long as u8;
+
+const NAME: u8 = Refusal::Name as u8;
+
+const RULELESS: u8 = Refusal::Ruleless as u8;
+
+const SYNTAX: u8 = Refusal::Syntax as u8;
+
+const DEEP: u8 = Refusal::Deep as u8;
 
 // The longest text that is read, in bytes.
 pub const MAX_TEXT: usize = 1048576;
@@ -35,7 +54,7 @@ pub fn put_refusal(out: &mut [u8; MESSAGE_BYTES], text: &[u8], number: u8, place
     if text.len() > MAX_TEXT {
         return b;
     }
-    put_place(out, b, text, smaller(place, text.len()))
+    put_place(out, b, text, place.min(text.len()))
 }
 
 // What is told of a text that is too long.
@@ -51,12 +70,11 @@ pub fn put_long(out: &mut [u8; MESSAGE_BYTES]) -> usize
 fn placed(number: u8) -> bool
     ensures { result ≡ is_placed number }
 {
-    (number == refusals::SYNTAX) | (number == refusals::DEEP)
+    matches!(number, SYNTAX | DEEP)
 }
 
 fn put_machine_line(out: &mut [u8], number: u8, place: usize) -> usize
-    requires { machine_most ≤ length out.old }
-    ensures { Fit out.old 0 (machine_line number place) out.new result machine_most }
+    ensures { PutInRoom out.old 0 (machine_line number place) out.new result }
 {
     let a = rows::put_text(out, 0, b"text ");
     let b = rows::put_decimal(out, a, number as u64);
@@ -67,8 +85,7 @@ fn put_machine_line(out: &mut [u8], number: u8, place: usize) -> usize
 
 // What stands before a place, or a line.
 fn put_between(out: &mut [u8], at: usize, number: u8) -> usize
-    requires { at + 6 ≤ length out.old }
-    ensures { Fit out.old at (pick (is_placed number) (ascii " ") (ascii " line ")) out.new result 6 }
+    ensures { PutInRoom out.old at (pick (is_placed number) (ascii " ") (ascii " line ")) out.new result }
 {
     if placed(number) {
         return rows::put_text(out, at, b" ");
@@ -79,135 +96,78 @@ fn put_between(out: &mut [u8], at: usize, number: u8) -> usize
 // ---- what is wrong
 
 fn put_sentence(out: &mut [u8], at: usize, number: u8) -> usize
-    requires { at + sentence_most ≤ length out.old }
-    ensures { Fit out.old at (said sentences number) out.new result sentence_most }
+    ensures { PutInRoom out.old at (said sentences number) out.new result }
 {
-    if number == refusals::ARGUMENT {
-        return rows::put_text(
-            out,
-            at,
-            b"A signal is above s31, or the rule's name is 0 or above 65535.\n",
-        );
-    }
-    if number == refusals::INTERVAL {
-        return rows::put_text(
-            out,
-            at,
-            b"An interval [a,b] has a above b, or b above 4095.\n",
-        );
-    }
-    if number == refusals::FULL {
-        return rows::put_text(
-            out,
-            at,
-            b"Up to this line there are more than 64 atoms and operators, or more than 8 rules.\n",
-        );
-    }
-    if number == refusals::LONG {
-        return rows::put_text(
-            out,
-            at,
-            b"The rule or a part of it waits for more than 4095 later states.\n",
-        );
-    }
-    if number == refusals::NAME {
-        return rows::put_text(out, at, b"An earlier line has the same name.\n");
-    }
-    put_form_sentence(out, at, number)
+    rows::put_text(out, at, sentence(number))
 }
 
-// The sentences of an empty text and of faults of syntax.
-fn put_form_sentence(out: &mut [u8], at: usize, number: u8) -> usize
-    requires { at + sentence_most ≤ length out.old }
-    ensures { Fit out.old at (said (drop 5 sentences) number) out.new result sentence_most }
+// The sentence of a number, if it has one.
+fn sentence(number: u8) -> &'static [u8]
+    ensures { result.now ≡ said sentences number }
 {
-    if number == refusals::RULELESS {
-        return rows::put_text(out, at, b"The text is empty: it has no rule.\n");
+    match number {
+        ARGUMENT => b"A signal is above s31, or the rule's name is 0 or above 65535.\n",
+        INTERVAL => b"An interval [a,b] has a above b, or b above 4095.\n",
+        FULL => {
+            b"Up to this line there are more than 64 atoms and operators, or more than 8 rules.\n"
+        }
+        LONG => b"The rule or a part of it waits for more than 4095 later states.\n",
+        NAME => b"An earlier line has the same name.\n",
+        RULELESS => b"The text is empty: it has no rule.\n",
+        SYNTAX => {
+            b"At the mark the line goes on, or ends, as no rule does; the last line needs a line end too.\n"
+        }
+        DEEP => b"The bracket at the mark is the 33rd that is open; at most 32 may be.\n",
+        _ => b"",
     }
-    if number == refusals::SYNTAX {
-        return rows::put_text(
-            out,
-            at,
-            b"At the mark the line goes on, or ends, as no rule does; the last line needs a line end too.\n",
-        );
-    }
-    if number == refusals::DEEP {
-        return rows::put_text(
-            out,
-            at,
-            b"The bracket at the mark is the 33rd that is open; at most 32 may be.\n",
-        );
-    }
-    at
 }
 
 // ---- where a place of a text stands
 
-fn smaller(a: usize, b: usize) -> usize
-    ensures { result ≡ min a b }
+// How many lines end in the bytes before a place.
+fn lines_before(before: &[u8]) -> usize
+    ensures { (result ≡ lines_before before.now (length before.now)) × (result ≤ length before.now) }
 {
-    if a < b { a } else { b }
-}
-
-// How many lines end before the place.
-fn lines_before(text: &[u8], p: usize) -> usize
-    requires { p ≤ length text.now }
-    ensures { (result ≡ lines_before text.now p) × (result ≤ p) }
-{
-    let mut n = 0;
-    for i in 0..p {
-        n += lists::either(text[i] == 10, 1, 0) as usize;
-    }
-    n
+    before.iter().filter(|&&b| b == b'\n').count()
 }
 
 // Where the line of the place begins.
-fn line_start(text: &[u8], p: usize) -> usize
-    requires { p ≤ length text.now }
-    ensures { (result ≡ line_start text.now p) × (result ≤ p) }
+fn line_start(before: &[u8]) -> usize
+    ensures { (result ≡ line_start before.now (length before.now)) × (result ≤ length before.now) }
 {
-    let mut i = p;
-    while i > 0 {
-        if text[i - 1] == 10 {
-            return i;
+    // The place is the answer.
+    for i in (0..before.len()).rev() {
+        if before[i] == b'\n' {
+            return i + 1;
         }
-        i -= 1;
     }
-    i
+    0
 }
 
-// Where it ends.
-fn line_end(text: &[u8], p: usize) -> usize
-    requires { p ≤ length text.now }
-    ensures { (result ≡ line_end text.now p) × (p ≤ result) × (result ≤ length text.now) }
+// How many of its bytes stand from the place on.
+fn up_to_end(rest: &[u8]) -> usize
+    ensures { (result ≡ up_to_end rest.now) × (result ≤ length rest.now) }
 {
-    let mut i = p;
-    while i < text.len() {
-        if text[i] == 10 {
-            return i;
-        }
-        i += 1;
-    }
-    i
+    rest.iter().position(|&b| b == b'\n').unwrap_or(rest.len())
 }
 
 // ---- the place, the line, and the mark
 
 fn put_place(out: &mut [u8], at: usize, text: &[u8], p: usize) -> usize
-    requires { (at + place_most ≤ length out.old) × (p ≤ length text.now) × (length text.now ≤ max_text) }
-    ensures { Fit out.old at (place_shown text.now p) out.new result place_most }
+    requires { (p ≤ length text.now) × (length text.now ≤ max_text) }
+    ensures { PutInRoom out.old at (place_shown text.now p) out.new result }
 {
-    let n = lines_before(text, p);
-    let s = line_start(text, p);
-    let e = line_end(text, p);
+    let (before, rest) = text.split_at(p);
+    let n = lines_before(before);
+    let s = line_start(before);
+    let e = p + up_to_end(rest);
     let a = put_where(out, at, n + 1, p - s + 1);
     let b = put_line(out, a, text, s, e, p);
     put_mark(out, b, s, e, p)
 }
 
 fn put_where(out: &mut [u8], at: usize, line: usize, column: usize) -> usize
-    requires { at + where_most ≤ length out.old }
-    ensures { Fit out.old at (where_line line column) out.new result where_most }
+    ensures { PutInRoom out.old at (where_line line column) out.new result }
 {
     let a = rows::put_text(out, at, b"line ");
     let b = rows::put_decimal(out, a, line as u64);
@@ -222,27 +182,22 @@ fn shown_from(s: usize, e: usize, p: usize) -> usize
     ensures { (result ≡ shown_from s e p) × (s ≤ result) × (result ≤ p) × (p - result ≤ shown_bytes) }
 {
     if e - s <= SHOWN_BYTES {
-        return s;
+        s
+    } else {
+        s.max(p.saturating_sub(SHOWN_BEFORE))
     }
-    if p - s <= SHOWN_BEFORE {
-        return s;
-    }
-    p - SHOWN_BEFORE
 }
 
 fn shown_to(from: usize, e: usize) -> usize
     requires { from ≤ e }
     ensures { (result ≡ min e (from + shown_bytes)) × (from ≤ result) × (result ≤ e) × (result - from ≤ shown_bytes) }
 {
-    if e - from <= SHOWN_BYTES {
-        return e;
-    }
-    from + SHOWN_BYTES
+    e.min(from.saturating_add(SHOWN_BYTES))
 }
 
 fn put_line(out: &mut [u8], at: usize, text: &[u8], s: usize, e: usize, p: usize) -> usize
-    requires { (at + line_most ≤ length out.old) × (s ≤ p) × (p ≤ e) × (e ≤ length text.now) }
-    ensures { Fit out.old at (shown_line text.now s e p) out.new result line_most }
+    requires { (s ≤ p) × (p ≤ e) × (e ≤ length text.now) }
+    ensures { PutInRoom out.old at (shown_line text.now s e p) out.new result }
 {
     let from = shown_from(s, e, p);
     let to = shown_to(from, e);
@@ -258,12 +213,13 @@ fn mark_at(s: usize, e: usize, p: usize) -> usize
     ensures { (result ≡ mark_at s e p) × (result ≤ indent_most) }
 {
     let from = shown_from(s, e, p);
-    lists::either(s < from, 3, 0) as usize + (p - from)
+    let dots = if s < from { 3 } else { 0 };
+    dots + (p - from)
 }
 
 fn put_mark(out: &mut [u8], at: usize, s: usize, e: usize, p: usize) -> usize
-    requires { (at + mark_most ≤ length out.old) × (s ≤ p) × (p ≤ e) }
-    ensures { Fit out.old at (mark_line s e p) out.new result mark_most }
+    requires { (s ≤ p) × (p ≤ e) }
+    ensures { PutInRoom out.old at (mark_line s e p) out.new result }
 {
     let indent = mark_at(s, e, p);
     let spaces = [32u8; MAX_INDENT];
@@ -272,8 +228,7 @@ fn put_mark(out: &mut [u8], at: usize, s: usize, e: usize, p: usize) -> usize
 }
 
 fn put_dots(out: &mut [u8], at: usize, cut: bool) -> usize
-    requires { at + 3 ≤ length out.old }
-    ensures { Fit out.old at (dots cut) out.new result 3 }
+    ensures { PutInRoom out.old at (dots cut) out.new result }
 {
     if cut {
         return rows::put_text(out, at, b"...");
@@ -285,17 +240,17 @@ fn put_dots(out: &mut [u8], at: usize, cut: bool) -> usize
 fn shown_byte(b: u8) -> u8
     ensures { result ≡ shown_byte b }
 {
-    lists::either((b < 32) | (b > 126), 63, b)
+    if (32..=126).contains(&b) { b } else { b'?' }
 }
 
 // The bytes from one place up to another.
 fn put_bytes(out: &mut [u8], at: usize, text: &[u8], from: usize, to: usize) -> usize
-    requires { (at + (to - from) ≤ length out.old) × (from ≤ to) × (to ≤ length text.now) }
-    ensures { Fit out.old at (shown text.now from to) out.new result (to - from) }
+    requires { (from ≤ to) × (to ≤ length text.now) }
+    ensures { PutInRoom out.old at (shown text.now from to) out.new result }
 {
-    let n = to - from;
-    for i in 0..n {
-        out[at + i] = shown_byte(text[from + i]);
+    let mut next = at;
+    for &b in &text[from..to] {
+        next = rows::put_text(out, next, &[shown_byte(b)]);
     }
-    at + n
+    next
 }

@@ -15,8 +15,7 @@ use Rattle.table.specs.Nodes.{watched_formula}
 use Rattle.table.specs.declared.Table.{Table}
 use Rattle.table.proofs.Soundness.{sound_iff, wait_sound_iff, sound_now}
 use Rattle.session.specs.declared.Session.{Session}
-use Rattle.session.specs.declared.Opening.{Opening}
-use Rattle.session.specs.Session.{Effect, formula_of, opening_by, opening, unfit_by, feeding_by, closing_by}
+use Rattle.session.specs.Session.{Opening, Effect, formula_of, opening_by, opening, unfit_by, feeding_by, closing_by}
 use Rattle.session.proofs.Effects.{opened_is, opened_rule, opened_sound, opened_fit}
 use Rattle.narrow.specs.Narrow.{widening, widening_by}
 use Rattle.narrow.proofs.Widening.{widened_fit, fit_now, widened_alike}

@@ -13,8 +13,7 @@ use Rattle.table.specs.declared.Table.{Table}
 use Rattle.mltl.specs.Mltl.{Formula}
 use Rattle.table.specs.Nodes.{wait_of}
 use Rattle.table.specs.Sound.{is_sound_by, table_rows, rule_rows}
-use Rattle.simplify.specs.Promise.{PromisedBy, SimplerBy}
-use Rattle.simplify.specs.declared.Simplified.{Simplified}
+use Rattle.simplify.specs.Promise.{PromisedBy, SimplerBy, Simplified}
 use Rattle.session.specs.declared.Session.{Session}
 use Rattle.session.specs.Session.{Effect, with_seen, opening_by}
 use Rattle.session.proofs.Effects.{opened_is, opened_rule, feed_number, close_number_lem}

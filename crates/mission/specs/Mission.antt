@@ -9,8 +9,7 @@ use Rattle.table.specs.Sound.{is_sound_by, table_rows, rule_rows}
 use Rattle.book.specs.Entries.{Bytes}
 use Rattle.book.specs.Reading.{reading}
 use Rattle.text.specs.Typing.{typed}
-use Rattle.simplify.specs.Promise.{PromisedBy}
-use Rattle.simplify.specs.declared.Simplified.{Simplified}
+use Rattle.simplify.specs.Promise.{PromisedBy, Simplified}
 use Rattle.session.specs.declared.Session.{Session}
 use Rattle.session.specs.Session.{opening_by}
 use Rattle.acts.specs.World.{Width, narrow, wide, limit}

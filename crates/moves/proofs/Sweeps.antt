@@ -1,32 +1,20 @@
 -- Sweeps over a register with its column moved down. Assumes nothing.
-use mathlib.Core.Path.{◌≡◌, refl, sym, ap, ◌∙◌, subst}
-use mathlib.Core.Logic.{inr, ⊎_elim}
-use mathlib.Core.Bool.{Bool, false, ◌||◌, ◌&&◌, and-false}
+use mathlib.Core.Path.{◌≡◌, refl, sym, ap, ap₂, ◌∙◌}
+use mathlib.Core.Logic.{inr}
+use mathlib.Core.Bool.{Bool, false, ◌||◌}
 use mathlib.Core.List.{List}
 use Prim.Native.Nat.{ℕ, ◌+◌, ◌-◌, ◌*◌, ◌/◌, ◌%◌, ◌^◌, ◌≤◌, ◌<◌}
-use native.Mathlib.Nat.{zero-add}
 use native.Mathlib.Omega.{arith}
-use lib.Bits.{bit_or, bit_and}
-use lib.ListN.{length, get_or, set, replicate}
-use lib.Seq.{ext_get_or, paste}
-use borrow.Rule.Slice.PartMut.{put_mid, mid_of}
-use Rattle.lists.specs.Bits.{bit_at, pack}
-use Rattle.lists.proofs.Tests.{lt_or_le}
-use Rattle.lists.proofs.Bits.{bit_none}
-use Rattle.lists.proofs.Columns.{length_pack, get_or_pack, word_is, bit_at_past, pack_is}
-use Rattle.column.specs.Column.{WordOf, Swept, Laid, Turned, register}
-use Rattle.column.proofs.Words.{own_word, word_by, or_words, and_words}
-use Rattle.column.proofs.Registers.{paste_low, paste_in, register_in}
-use Rattle.column.proofs.Sweeps.{swept_to, swept_right, swept_next, swept_whole, own_next, ahead, word_first, register_past, register_whole, pack_none}
-use Rattle.column.proofs.Parts.{part_turned, laid_length}
-use Rattle.pair.specs.Pair.{IntoFirst}
-use Rattle.pair.proofs.Pairs.{Into, into_next, into_laid}
-use Rattle.moves.specs.Moves.{moved, joined, met, bridged, sustained}
+use lib.Bits.{bit_or}
+use lib.ListN.{length, get_or, set}
+use Rattle.lists.specs.Bits.{bit, bit_at}
+use Rattle.lists.proofs.Columns.{pack_is}
+use Rattle.column.specs.Column.{WordOf, Swept, Turned, register}
+use Rattle.column.proofs.Words.{no_word, own_word, word_by, or_words}
+use Rattle.column.proofs.Registers.{register_in}
+use Rattle.column.proofs.Sweeps.{swept_right, swept_next, swept_whole, own_next, own_ahead, ahead, word_first, register_past}
+use Rattle.moves.specs.Moves.{moved, joined, with_moved}
 use Rattle.moves.proofs.Words.{or_none, moved_last}
-
--- a turn less
-pub less : {a b : ℕ} → b < a → a - (b + 1) < a - b
-less h = omega arith
 
 -- the last word that is left of a register moved down
 pub last_of : (m by w : ℕ) (xs : List ℕ) → w + by / 64 + 1 ≡ m → get_or xs (w + by / 64) 0 < 2 ^ 64
@@ -38,36 +26,31 @@ pub moved_next : {w : ℕ} {f : ℕ → Bool} {xs ys : List ℕ} → Swept 0 f w
     → WordOf (moved by (register 0 m xs)) w x
 moved_next {w} r m by q = word_by q (λ i h. ahead r 0 m (inr (omega arith)) (64 * w + i + by) (omega arith))
 
--- a word more of a column joined, or met, with itself moved down
-module _ (by m : ℕ) {w y : ℕ} {xs ys : List ℕ} (h : w < m) (l : m ≤ length xs) (a : get_or ys w 0 < 2 ^ 64) (q : WordOf (moved by (register 0 m ys)) w y) where
-  pub joined_next : Swept 0 (joined by (register 0 m xs)) w xs ys → Swept 0 (joined by (register 0 m xs)) (w + 1) xs (set ys w (bit_or (get_or ys w 0) y))
-  joined_next r = swept_next r (omega arith) (or_words (own_next r m h a) (moved_next r m by q))
+-- a word more, made of that of each register and of the first one moved down
+module _ (op : Bool → Bool → Bool → Bool) (d by m : ℕ) {w y z : ℕ} {xs ys : List ℕ} (h : w < m) (l : m ≤ length xs - d) (fits : (i : ℕ) → get_or ys i 0 < 2 ^ 64)
+    (b : z < 2 ^ 64) (bits : (i : ℕ) → i < 64 → bit z i ≡ op (bit (get_or ys w 0) i) (bit (get_or ys (d + w) 0) i) (bit y i)) where
+  pub made_more : WordOf (moved by (register 0 m xs)) w y → Swept 0 (with_moved op by (register 0 m xs) (register d m xs)) w xs ys
+      → Swept 0 (with_moved op by (register 0 m xs) (register d m xs)) (w + 1) xs (set ys w z)
+  made_more next r =
+      let own = own_next r m h (fits w) in
+      let other = own_ahead r d m (inr (omega arith)) h (fits (d + w)) refl in
+      swept_next r (omega arith)
+      (record { fits = b; bits = λ i k. bits i k ∙ ap₂ (λ (f : Bool → Bool) (v : Bool). f v) (ap₂ op (own.bits i k) (other.bits i k)) (next.bits i k) })
 
-  pub met_next : Swept 0 (met by (register 0 m xs)) w xs ys → Swept 0 (met by (register 0 m xs)) (w + 1) xs (set ys w (bit_and (get_or ys w 0) y))
-  met_next r = swept_next r (omega arith) (and_words (own_next r m h a) (moved_next r m by q))
+  pub moved_more : WordOf (moved by (register 0 m ys)) w y → Swept 0 (with_moved op by (register 0 m xs) (register d m xs)) w xs ys
+      → Swept 0 (with_moved op by (register 0 m xs) (register d m xs)) (w + 1) xs (set ys w z)
+  moved_more q r = made_more (moved_next r m by q) r
 
--- and of the first of two registers, joined or met with it as the second tells
-module _ (by d m : ℕ) {w y : ℕ} {xs ys : List ℕ} (h : w < m) (fits : (i : ℕ) → get_or ys i 0 < 2 ^ 64) (q : WordOf (moved by (register 0 m ys)) w y) where
-  pub bridged_next : Into (bridged by) d 0 d m w xs ys → Into (bridged by) d 0 d m (w + 1) xs (set ys w (bit_or (get_or ys w 0) (bit_and (get_or ys (d + w) 0) y)))
-  bridged_next r = into_next r h (omega arith) (omega arith) fits (λ a b. or_words a (and_words b (moved_next r.swept m by q)))
+-- past the words that are left the column moved down is clear
+pub clear_word : (by m : ℕ) {w : ℕ} (xs : List ℕ) → m ≤ w + by / 64 → WordOf (moved by (register 0 m xs)) w 0
+clear_word by m {w} xs p = no_word (λ i l. register_past m xs (64 * w + i + by) (omega arith))
 
-  pub sustained_next : Into (sustained by) d 0 d m w xs ys → Into (sustained by) d 0 d m (w + 1) xs (set ys w (bit_and (get_or ys w 0) (bit_or (get_or ys (d + w) 0) y)))
-  sustained_next r = into_next r h (omega arith) (omega arith) fits (λ a b. and_words a (or_words b (moved_next r.swept m by q)))
+-- the same of a column joined with itself moved down
+pub joined_next : (by m : ℕ) {w y : ℕ} {xs ys : List ℕ} → w < m → m ≤ length xs → get_or ys w 0 < 2 ^ 64 → WordOf (moved by (register 0 m ys)) w y
+    → Swept 0 (joined by (register 0 m xs)) w xs ys → Swept 0 (joined by (register 0 m xs)) (w + 1) xs (set ys w (bit_or (get_or ys w 0) y))
+joined_next by m h l a q r = swept_next r (omega arith) (or_words (own_next r m h a) (moved_next r m by q))
 
--- the words that are left, said of the whole list
-pub left_done : (op : List ℕ → ℕ → Bool) {m k left : ℕ} {xs ys : List ℕ} → m ≡ length xs → k ≡ left → Swept 0 (op (register 0 m xs)) k xs ys
-    → Swept 0 (op xs) left xs ys
-left_done op {m} {left = left} {xs = xs} {ys = ys} e g r = subst (λ (c : List ℕ). Swept 0 (op c) left xs ys) (register_whole m xs e) (swept_to r g)
-
--- ---- the rest of a register, where nothing of the column moved down is left
-module _ (by : ℕ) (xs : List ℕ) (t : ℕ) (h : 64 * (length xs - by / 64) ≤ t) where
-  pub moved_past : moved by xs t ≡ false
-  moved_past = bit_at_past xs (t + by) (omega arith)
-
-  pub met_past : met by xs t ≡ false
-  met_past = ap (λ (b : Bool). bit_at xs t && b) moved_past ∙ and-false (bit_at xs t)
-
--- joined with it: the words stay
+-- ---- where nothing of the column moved down is left, the words joined with it stay
 pub stays : (g : ℕ → Bool) {m k : ℕ} {xs ys : List ℕ} → ((w : ℕ) → get_or xs w 0 < 2 ^ 64) → k ≤ m → ((t : ℕ) → 64 * k ≤ t → g t ≡ false)
     → Swept 0 (λ t. bit_at (register 0 m xs) t || g t) k xs ys → Swept 0 (λ t. bit_at (register 0 m xs) t || g t) m xs ys
 stays g {m} {xs = xs} fits h z r =
@@ -77,42 +60,6 @@ pub joined_done : (by : ℕ) {m k : ℕ} {xs ys : List ℕ} → m ≡ length xs 
     → Swept 0 (joined by (register 0 m xs)) k xs ys → Turned (joined by xs) xs ys
 joined_done by {m} {xs = xs} e fits g r =
     swept_whole (joined by) {w = m} e (stays (moved by (register 0 m xs)) fits (omega arith) (λ t h. register_past m xs (t + by) (omega arith)) r) (omega arith) (omega arith)
-
-pub bridged_done : (by d : ℕ) {m k : ℕ} {xs ys : List ℕ} → ((w : ℕ) → get_or xs w 0 < 2 ^ 64) → k ≡ m - by / 64 → Into (bridged by) d 0 d m k xs ys
-    → IntoFirst (bridged by) d xs ys
-bridged_done by d {m} {xs = xs} fits g r =
-    into_laid r
-    (stays (λ t. bit_at (register d m xs) t && moved by (register 0 m xs) t) fits (omega arith)
-    (λ t j. ap (λ (b : Bool). bit_at (register d m xs) t && b) (register_past m xs (t + by) (omega arith)) ∙ and-false (bit_at (register d m xs) t)) r.swept)
-
--- met with it where the second is clear: a word more, met with that of the second
-pub sustained_rest : (by d m : ℕ) {w : ℕ} {xs ys : List ℕ} → w < m → m ≤ w + by / 64 → ((i : ℕ) → get_or ys i 0 < 2 ^ 64) → Into (sustained by) d 0 d m w xs ys
-    → Into (sustained by) d 0 d m (w + 1) xs (set ys w (bit_and (get_or ys w 0) (get_or ys (d + w) 0)))
-sustained_rest by d m {w} {xs} h p fits r =
-    into_next r h (omega arith) (omega arith) fits (λ a b. and_words a (or_none (moved by (register 0 m xs)) b (λ i l. register_past m xs (64 * w + i + by) (omega arith))))
-
--- met with it: the words are cleared
-pub vanishes : {f : ℕ → Bool} {k : ℕ} {xs ys zs : List ℕ} → Swept 0 f k xs ys → k ≤ length xs → zs ≡ replicate (length (mid_of k (length ys - k) ys)) 0
-    → ((t : ℕ) → 64 * k ≤ t → f t ≡ false) → Turned f xs (put_mid k (length ys - k) ys zs)
-vanishes {f} {k} {xs} {ys} {zs} r h q z =
-    let n : ℕ = length ys - k in
-    let long : length ys ≡ length xs = r.long in
-    let laid : Laid k n (λ t. false) ys (put_mid k n ys zs) = part_turned k n ys (omega arith) (record { is = q ∙ sym (pack_none (length (mid_of k n ys))) }) in
-    let whole : n ≤ length (pack n (λ t. false)) = omega (arith, length_pack n (λ t. false)) in
-    let same : length (put_mid k n ys zs) ≡ length xs = laid_length (omega arith) laid ∙ long in
-    record {
-      is = ext_get_or 0 (put_mid k n ys zs) (pack (length xs) f) (same ∙ sym (length_pack (length xs) f)) λ i l.
-          ap (λ (y : List ℕ). get_or y i 0) laid.is
-          ∙ ⊎_elim
-          (λ (a : i < k).
-          paste_low ys k (pack n (λ t. false)) n (omega arith) whole i a ∙ ap (λ (j : ℕ). get_or ys j 0) (sym (zero-add i)) ∙ r.laid i a)
-          (λ (a : k ≤ i).
-          ap (λ (j : ℕ). get_or (paste ys k (pack n (λ t. false)) n) j 0) (let g : i ≡ k + (i - k) = omega arith in g)
-          ∙ paste_in ys k (pack n (λ t. false)) n (omega arith) whole (i - k) (omega arith) ∙ get_or_pack n (λ t. false) (i - k) (omega arith)
-          ∙ sym (word_is 0 (i - k) (λ t. false) (omega arith) (λ j h. bit_none j)) ∙ word_is 0 i f (omega arith) (λ j h. bit_none j ∙ sym (z (64 * i + j) (omega arith))))
-          (lt_or_le i k)
-          ∙ sym (get_or_pack (length xs) f i (omega arith));
-    }
 
 -- moved by nothing
 pub moved_none : (by : ℕ) (xs : List ℕ) → by ≡ 0 → ((i : ℕ) → get_or xs i 0 < 2 ^ 64) → Turned (moved by xs) xs xs

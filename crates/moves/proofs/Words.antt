@@ -1,16 +1,23 @@
 -- Words of a column moved down. Assumes nothing.
 use mathlib.Core.Path.{◌≡◌, sym, ap, ap₂, ◌∙◌}
 use mathlib.Core.Logic.{⊎_elim}
-use mathlib.Core.Bool.{Bool, false, ◌||◌, or-false}
+use mathlib.Core.Bool.{Bool, false, ◌||◌, ◌&&◌, or-false}
 use Prim.Native.Nat.{ℕ, ◌+◌, ◌-◌, ◌*◌, ◌/◌, ◌%◌, ◌^◌, ◌≤◌, ◌<◌}
 use native.Mathlib.Nat.{mod-lt, lt_of_le_of_lt, div-le_self}
 use native.Mathlib.Omega.{arith}
-use lib.Bits.{bit_or, or_lt}
+use lib.Bits.{bit_or, bit_and, or_lt}
 use Rattle.lists.specs.Bits.{bit}
 use Rattle.lists.proofs.Tests.{lt_or_le}
-use Rattle.lists.proofs.Bits.{bit_or_lem, bit_shr, bit_mod, bit_shl_low, bit_shl_high, bit_high}
+use Rattle.lists.proofs.Bits.{bit_or_lem, bit_and_lem, bit_shr, bit_mod, bit_shl_low, bit_shl_high, bit_high}
 use Rattle.column.specs.Column.{WordOf}
-use Rattle.column.proofs.Words.{word_by}
+use Rattle.column.proofs.Words.{word_by, bit_or_by, bit_and_by}
+
+-- the words that `bridge` and `sustain` make
+pub bit_bridge : (u v x : ℕ) {z : ℕ} → z ≡ bit_or u (bit_and v x) → (i : ℕ) → bit z i ≡ (bit u i || bit v i && bit x i)
+bit_bridge u v x e i = bit_or_by u (bit_and v x) e i ∙ ap (λ (b : Bool). bit u i || b) (bit_and_lem v x i)
+
+pub bit_sustain : (u v x : ℕ) {z : ℕ} → z ≡ bit_and u (bit_or v x) → (i : ℕ) → bit z i ≡ (bit u i && (bit v i || bit x i))
+bit_sustain u v x e i = bit_and_by u (bit_or v x) e i ∙ ap (λ (b : Bool). bit u i && b) (bit_or_lem v x i)
 
 -- a second column that is clear there
 pub or_none : {f : ℕ → Bool} (g : ℕ → Bool) {w x : ℕ} → WordOf f w x → ((i : ℕ) → i < 64 → g (64 * w + i) ≡ false) → WordOf (λ t. f t || g t) w x

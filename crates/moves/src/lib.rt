@@ -2,10 +2,10 @@
 // whole slice as one.
 #![tactic(auto)]
 
-ghost use Rattle.std.specs.Prelude.{◌≡◌, ◌+◌, ◌-◌, ◌/◌, ◌%◌, ◌≤◌, ◌<◌, length};
+ghost use Rattle.std.specs.Prelude.{◌≡◌, Bool, ◌+◌, ◌-◌, ◌/◌, ◌%◌, ◌≤◌, ◌<◌, length};
 ghost use Rattle.column.specs.Column.{Turned, WordOf, Swept, register};
-ghost use Rattle.pair.specs.Pair.{room, IntoFirst};
-ghost use Rattle.moves.specs.Moves.{moved, joined, met, bridged, sustained};
+ghost use Rattle.pair.specs.Pair.{IntoFirst};
+ghost use Rattle.moves.specs.Moves.{moved, joined, met, bridged, sustained, with_moved, BitwiseThree};
 
 // Word w of a register's column moved down, where both words that it comes from are there; and its last word. The register has the first `words` words.
 fn near_word(s: &[u64], words: usize, by: usize, w: usize) -> u64
@@ -36,72 +36,47 @@ fn whole_word(s: &[u64], words: usize, by: usize, w: usize) -> u64
 fn words_left(words: usize, by: usize) -> usize
     ensures { result ≡ words - by / 64 }
 {
-    let q = by / 64;
-    if words <= q {
-        return 0;
-    }
-    words - q
+    words.saturating_sub(by / 64)
 }
 
-// Those words of the column moved down, and met with it.
-fn move_words(s: &mut [u64], by: usize, left: usize)
-    requires { left ≡ length s.old - by / 64 }
-    ensures { Swept 0 (moved by s.old) left s.old s.new }
+// Those words of the first register become what `f` makes of the word itself, that of the second register, and that of the first one's column moved down.
+fn sweep_left<F: Fn(u64, u64, u64) -> u64>(s: &mut [u64], d: usize, words: usize, by: usize, f: F)
+    requires callable { F.IsAlwaysCallable f }
+    requires room { words ≤ length s.old - d }
+    ensures { (op : Bool → Bool → Bool → Bool) → BitwiseThree (F.post f) op → Swept 0 (with_moved op by (register 0 words s.old) (register d words s.old)) (words - by / 64) s.old s.new }
 {
-    if left == 0 {
-        return;
-    }
-    let words = s.len();
-    let last = left - 1;
-    for w in 0..last {
-        let m = near_word(s, words, by, w);
-        s[w] = m;
-    }
-    let m = last_word(s, words, by, last);
-    s[last] = m;
-}
-
-fn meet_words(s: &mut [u64], by: usize, left: usize)
-    requires { left ≡ length s.old - by / 64 }
-    ensures { Swept 0 (met by s.old) left s.old s.new }
-{
-    if left == 0 {
-        return;
-    }
-    let words = s.len();
-    let last = left - 1;
-    for w in 0..last {
-        let m = s[w] & near_word(s, words, by, w);
-        s[w] = m;
-    }
-    let m = s[last] & last_word(s, words, by, last);
-    s[last] = m;
-}
-
-// Those words of the first register, met with its column moved down where the second is clear.
-fn sustain_words(s: &mut [u64], d: usize, by: usize, words: usize, left: usize)
-    requires { (words ≡ room d s.old) × (left ≡ words - by / 64) }
-    ensures { Swept 0 (sustained by (register 0 words s.old) (register d words s.old)) left s.old s.new }
-{
+    let left = words_left(words, by);
     if left == 0 {
         return;
     }
     let last = left - 1;
+    // By index, since each word is made of two others of the same slice.
     for w in 0..last {
-        let m = s[w] & (s[d + w] | near_word(s, words, by, w));
-        s[w] = m;
+        s[w] = f(s[w], s[d + w], near_word(s, words, by, w));
     }
-    let m = s[last] & (s[d + last] | last_word(s, words, by, last));
-    s[last] = m;
+    s[last] = f(s[last], s[d + last], last_word(s, words, by, last));
 }
+
+// The same of all its words: past those that are left the column moved down is clear.
+fn sweep<F: Fn(u64, u64, u64) -> u64 + Copy>(s: &mut [u64], d: usize, words: usize, by: usize, f: F)
+    requires callable { F.IsAlwaysCallable f }
+    requires room { words ≤ length s.old - d }
+    ensures { (op : Bool → Bool → Bool → Bool) → BitwiseThree (F.post f) op → Swept 0 (with_moved op by (register 0 words s.old) (register d words s.old)) words s.old s.new }
+{
+    sweep_left(s, d, words, by, f);
+    for w in words_left(words, by)..words {
+        s[w] = f(s[w], s[d + w], 0);
+    }
+}
+
+// ---- the whole slice: no second register is looked at
 
 // Bit t becomes bit t + by.
 fn move_register(s: &mut [u64], by: usize)
     ensures { Turned (moved by s.old) s.old s.new }
 {
-    let left = words_left(s.len(), by);
-    move_words(s, by, left);
-    column::clear(&mut s[left..]);
+    let words = s.len();
+    sweep(s, 0, words, by, |_own, _other, moved| moved);
 }
 
 // The same, at once where nothing moves.
@@ -118,9 +93,8 @@ pub fn move_down(s: &mut [u64], by: usize)
 pub fn meet_moved(s: &mut [u64], by: usize)
     ensures { Turned (met by s.old) s.old s.new }
 {
-    let left = words_left(s.len(), by);
-    meet_words(s, by, left);
-    column::clear(&mut s[left..]);
+    let words = s.len();
+    sweep(s, 0, words, by, |own, _other, moved| own & moved);
 }
 
 // Bit t becomes bit t or bit t + by.
@@ -128,17 +102,7 @@ fn join_register(s: &mut [u64], by: usize)
     ensures { Turned (joined by s.old) s.old s.new }
 {
     let words = s.len();
-    let left = words_left(words, by);
-    if left == 0 {
-        return;
-    }
-    let last = left - 1;
-    for w in 0..last {
-        let m = s[w] | near_word(s, words, by, w);
-        s[w] = m;
-    }
-    let m = s[last] | last_word(s, words, by, last);
-    s[last] = m;
+    sweep(s, 0, words, by, |own, _other, moved| own | moved);
 }
 
 // The same, where `by` is a number of whole words.
@@ -148,9 +112,9 @@ fn join_words(s: &mut [u64], by: usize)
 {
     let words = s.len();
     let left = words_left(words, by);
+    // By index, since each word is made of two of the same slice.
     for w in 0..left {
-        let m = s[w] | whole_word(s, words, by, w);
-        s[w] = m;
+        s[w] |= whole_word(s, words, by, w);
     }
 }
 
@@ -165,22 +129,14 @@ pub fn join_moved(s: &mut [u64], by: usize)
     join_register(s, by);
 }
 
+// ---- two registers
+
 // Bit t of the first register becomes that bit, or bit t of the second and bit t + by of the first.
 pub fn bridge(s: &mut [u64], d: usize, by: usize)
     ensures { IntoFirst (bridged by) d s.old s.new }
 {
     let words = pair::room_of(s.len(), d);
-    let left = words_left(words, by);
-    if left == 0 {
-        return;
-    }
-    let last = left - 1;
-    for w in 0..last {
-        let m = s[w] | s[d + w] & near_word(s, words, by, w);
-        s[w] = m;
-    }
-    let m = s[last] | s[d + last] & last_word(s, words, by, last);
-    s[last] = m;
+    sweep(s, d, words, by, |own, other, moved| own | other & moved);
 }
 
 // Bit t of the first register becomes that bit, and bit t of the second or bit t + by of the first.
@@ -188,10 +144,5 @@ pub fn sustain(s: &mut [u64], d: usize, by: usize)
     ensures { IntoFirst (sustained by) d s.old s.new }
 {
     let words = pair::room_of(s.len(), d);
-    let left = words_left(words, by);
-    sustain_words(s, d, by, words, left);
-    for w in left..words {
-        let m = s[w] & s[d + w];
-        s[w] = m;
-    }
+    sweep(s, d, words, by, |own, other, moved| own & (other | moved));
 }

@@ -10,8 +10,7 @@ use Rattle.table.specs.Nodes.{wait_of}
 use Rattle.table.specs.Sound.{SoundBy}
 use Rattle.table.proofs.Soundness.{sound_now}
 use Rattle.session.specs.declared.Session.{Session}
-use Rattle.session.specs.declared.Opening.{Opening}
-use Rattle.session.specs.Session.{no_session, unfit_by}
+use Rattle.session.specs.Session.{Opening, no_session, unfit_by}
 use Rattle.session.proofs.Answers.{fit_sound, sound_fit}
 use Rattle.narrow.specs.declared.NarrowSession.{NarrowSession}
 use Rattle.narrow.specs.Narrow.{wide_of, widen_rows, widening_by, widening, Relied, WidenedAlike}

@@ -5,8 +5,7 @@ use Rattle.lists.specs.Choice.{Row, pick, ◌if◌, first}
 use Rattle.mltl.specs.Mltl.{Formula, delay, old_delay}
 use Rattle.table.specs.Sound.{Sound}
 use Rattle.session.specs.declared.Session.{Session}
-use Rattle.session.specs.declared.Opening.{Opening}
-use Rattle.session.specs.Session.{session_with, no_session, unfit_by}
+use Rattle.session.specs.Session.{Opening, session_with, no_session, unfit_by}
 use Rattle.narrow.specs.declared.NarrowSession.{NarrowSession}
 
 -- the wide session with the same table, rule number and count

@@ -2,9 +2,11 @@
 #![tactic(auto)]
 
 ghost use Rattle.std.specs.Prelude.{◌≡◌};
+ghost use Rattle.session.specs.Session.{opening_told};
 ghost use Rattle.narrow.specs.Narrow.{wide_of, widening};
 
-use session::{Opening, Session};
+use refusals::Refusal;
+use session::Session;
 use table::Table;
 
 // A session whose count of states has 32 bits. No call opens, feeds or closes one any more.
@@ -16,20 +18,13 @@ pub struct NarrowSession {
 }
 
 impl NarrowSession {
-    // The session with a wide count, and all else as it was; otherwise the number of the refusal and 'no session'.
-    pub fn widen(self) -> Opening
-        ensures { result ≡ widening (wide_of self) }
+    // The session with a wide count, and all else as it was.
+    pub fn widen(self) -> Result<Session, Refusal>
+        ensures { opening_told result ≡ widening (wide_of self) }
     {
-        let d = table::delay(self.table, self.rule);
-        if d.number != 0 {
-            return Opening {
-                number: refusals::UNSOUND,
-                session: session::no_session(),
-            };
-        }
-        Opening {
-            number: 0,
-            session: Session::with(self.table, self.rule, self.seen as u64),
-        }
+        let Ok(_) = table::delay(self.table, self.rule) else {
+            return Err(Refusal::Unsound);
+        };
+        Ok(Session::with(self.table, self.rule, self.seen as u64))
     }
 }

@@ -63,7 +63,7 @@ fn mark_node(marks: u64, i: usize, n: Node) -> u64
 fn at_most(count: usize) -> usize
     ensures { result ≡ min count max_nodes }
 {
-    if count < MAX_NODES { count } else { MAX_NODES }
+    count.min(MAX_NODES)
 }
 
 // The marks of all that is needed for the marked ones of the first `count` nodes, found from the last node to the first.
@@ -71,9 +71,8 @@ pub fn needed(nodes: [Node; MAX_NODES], count: usize, seed: u64) -> u64
     ensures { result ≡ needed seed (take count nodes) }
 {
     let mut m = seed;
-    let mut i = at_most(count);
-    while 0 < i {
-        i -= 1;
+    // i is the place that is marked.
+    for i in (0..at_most(count)).rev() {
         m = mark_node(m, i, nodes[i]);
     }
     m

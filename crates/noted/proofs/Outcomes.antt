@@ -21,14 +21,14 @@ use Rattle.session.proofs.Effects.{feed_accepted, feed_refused_lem, close_accept
 use Rattle.session.proofs.Answers.{delay_is, feed_fits, close_fits}
 use Rattle.registers.specs.declared.Kind.{Kind}
 use Rattle.registers.specs.declared.Outcome.{Outcome}
-use Rattle.registers.specs.Registers.{after_call}
 use Rattle.noted.specs.Noted.{place_of_no, outcome_of, given}
 use Rattle.noted.specs.Code.Steps.{Countable}
 use Rattle.noted.proofs.Places.{some_no, all_yes}
 
-pub without : (kind : Kind) (number : ℕ) → ◌≡◌ {A = Outcome} (record { kind = kind; number = number; gives = false; fails = false; tick = 0 }) (outcome_of kind number [] 0)
+pub without : (kind : Kind) (number before : ℕ)
+    → ◌≡◌ {A = Outcome} (record { kind = kind; number = number; gives = false; fails = false; tick = 0 }) (outcome_of kind number [] before)
 unfolding some
-without kind number = refl
+without kind number before = refl
 
 -- how many verdicts a fit session has given
 pub given_is : (old : Bool) (s : Session) {g : ℕ} → g ≡ s.seen - (rule_delay_by (wait_of old) s.table s.rule).delay → unfit_by (wait_of old) s ≡ false → g ≡ given (wait_of old) s
@@ -41,9 +41,9 @@ module _ (kind : Kind) (number : ℕ) (f : ℕ → Bool) (count before : ℕ) {p
   with_no h e =
       rw (length_ticks f count, lt-ltb 0 count (omega arith), some_no (ticks f count) (omega (arith, length_ticks f count)), ← found, e)
 
-  pub without_no : count ≤ place
-      → ◌≡◌ {A = Outcome} (record { kind = kind; number = number; gives = ltb 0 count; fails = false; tick = 0 }) (outcome_of kind number (ticks f count) before)
-  without_no h = rw (length_ticks f count, all_yes (ticks f count) (omega (arith, length_ticks f count)))
+  pub without_no : {b : Bool} → b ≡ ltb 0 count → count ≤ place
+      → ◌≡◌ {A = Outcome} (record { kind = kind; number = number; gives = b; fails = false; tick = 0 }) (outcome_of kind number (ticks f count) before)
+  without_no e h = rw (e, length_ticks f count, all_yes (ticks f count) (omega (arith, length_ticks f count)))
 
 -- ---- the session's calls: one that gives a verdict is accepted
 accepted : (e : Effect) → ((e.answer.number ≡ 0 → ⊥) → e.answer.count ≡ 0) → 0 < e.answer.count → e.answer.number ≡ 0
@@ -76,8 +76,3 @@ module _ (old : Bool) (s : Session) (h x o : List ℕ) where
     where
       counts : (seen d : ℕ) {n : ℕ} → n ≡ min seen d → seen ≤ max_seen → (seen - d) + n ≤ max_seen
       counts seen d e k = omega arith
-
--- ---- a call's answer, or its effect, the outcome made of it, and the registers that it is noted in
-pub noted_as : {A : Type 0} (outcome : A → Outcome) (b : List ℕ) {b' : List ℕ} {o : Outcome} {y z : A}
-    → y ≡ z → o ≡ outcome y → b' ≡ after_call o b → (y ≡ z) × (b' ≡ after_call (outcome z) b)
-noted_as outcome b made told noted = (made, noted ∙ ap (λ (o : Outcome). after_call o b) (told ∙ ap outcome made))

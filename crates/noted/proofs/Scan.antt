@@ -2,16 +2,14 @@
 use Prim.Native.Nat.{ℕ, zero, suc, ◌+◌, ◌-◌, ◌*◌, ◌/◌, ◌%◌, ◌^◌, ◌≤◌, ◌<◌, min}
 use native.Mathlib.Omega.{arith}
 use mathlib.Core.Path.{◌≡◌, refl, sym, ap, ◌∙◌}
-use mathlib.Core.Bool.{Bool, true, false, not, ◌||◌}
+use mathlib.Core.Bool.{Bool, true, false}
 use mathlib.Core.List.{List, [], ◌∷◌, ◌++◌}
 use mathlib.Core.Logic.{⊎_elim}
 use lib.Count.{count_trailing_zeros}
-use lib.Dec.{ltb, leb}
 use lib.ListN.{length, get_or}
 use Rattle.lists.specs.Sequence.{ticks}
 use Rattle.lists.specs.Bits.{bit, bit_at}
-use Rattle.lists.proofs.Tests.{lt_or_le, or_left, or_right, or_split}
-use borrow.Author.Tests.{ltb-true, ltb-false, leb-true, leb-false}
+use Rattle.lists.proofs.Tests.{lt_or_le}
 use Rattle.lists.proofs.Sequences.{length_ticks, ticks_add, ticks_ext}
 use Rattle.lists.proofs.Bits.{bit_zero, bit_suc, half, not_half, not_last}
 use Rattle.lists.proofs.Columns.{bit_at_at, bit_at_past}
@@ -95,7 +93,7 @@ module _ (ws : List ℕ) (count w : ℕ) {yes : ℕ} (small : get_or ws w 0 < 2 
       split : 64 + (left - 64) ≡ left
       split = omega arith
 
-  found_last : left ≤ 64 → 64 * w + min yes left ≡ place_of_no (ticks (bit_at ws) count)
+  pub found_last : left ≤ 64 → 64 * w + min yes left ≡ place_of_no (ticks (bit_at ws) count)
   found_last l = let e = first_word left l in omega (arith, p.place)
 
   found_inside : yes < 64 → 64 ≤ left → 64 * w + min yes left ≡ place_of_no (ticks (bit_at ws) count)
@@ -105,7 +103,8 @@ module _ (ws : List ℕ) (count w : ℕ) {yes : ℕ} (small : get_or ws w 0 < 2 
       let e : place_of_no (ticks (from ws w) left) ≡ place_of_no (ticks (from ws w) 64) = ap place_of_no (cut l) ∙ place_within (ticks (from ws w) 64) behind (omega arith) in
       omega (arith, p.place)
 
-  pass : 64 ≤ yes → 64 ≤ left → Passed ws count (w + 1)
+  -- all its verdicts are yes, and others follow
+  pub pass : 64 ≤ yes → 64 ≤ left → Passed ws count (w + 1)
   pass y l =
       let f = first_word 64 (omega arith) in
       let n : length (ticks (from ws w) 64) ≡ 64 = length_ticks (from ws w) 64 in
@@ -117,16 +116,5 @@ module _ (ws : List ℕ) (count w : ℕ) {yes : ℕ} (small : get_or ws w 0 < 2 
       ∙ ap (λ (k : ℕ). place_of_no (ticks (from ws (w + 1)) k)) m in
       record { few = omega arith; place = omega (arith, p.place) }
 
-  -- the word decides, or all its verdicts are yes and others follow
-  pub found : (ltb yes 64 || leb left 64) ≡ true → 64 * w + min yes left ≡ place_of_no (ticks (bit_at ws) count)
-  found t =
-      ⊎_elim (λ (l : 64 < left). found_inside (ltb-true yes 64 (inside l)) (omega arith)) (λ (l : left ≤ 64). found_last l) (lt_or_le 64 left)
-    where
-      inside : 64 < left → ltb yes 64 ≡ true
-      inside l = ⊎_elim (λ e. e) (λ e. absurd (let k = leb-true left 64 e in omega arith)) (or_split (ltb yes 64) (leb left 64) t)
-
-  pub went_on : (ltb yes 64 || leb left 64) ≡ false → Passed ws count (w + 1)
-  went_on t =
-      let y = ltb-false yes 64 (or_left (ltb yes 64) (leb left 64) t) in
-      let l = leb-false left 64 (or_right (ltb yes 64) (leb left 64) t) in
-      pass y (omega arith)
+  pub found_few : yes < 64 → 64 * w + min yes left ≡ place_of_no (ticks (bit_at ws) count)
+  found_few y = ⊎_elim (λ (l : 64 < left). found_inside y (omega arith)) (λ (l : left ≤ 64). found_last l) (lt_or_le 64 left)

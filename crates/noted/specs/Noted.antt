@@ -6,8 +6,7 @@ use Rattle.lists.specs.Sequence.{ticks, some}
 use Rattle.lists.specs.Bits.{bit_at}
 use Rattle.mltl.specs.Mltl.{Formula}
 use Rattle.session.specs.declared.Session.{Session}
-use Rattle.session.specs.declared.Opening.{Opening}
-use Rattle.session.specs.Session.{Effect, formula_of}
+use Rattle.session.specs.Session.{Opening, Effect, formula_of}
 use Rattle.registers.specs.declared.Kind.{Kind}
 use Rattle.registers.specs.declared.Kind.TheVariants.{Open, Widen, Feed, Close}
 use Rattle.registers.specs.declared.Outcome.{Outcome}

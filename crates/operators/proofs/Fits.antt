@@ -3,29 +3,18 @@ use mathlib.Core.Path.{◌≡◌, sym, ap, ◌∙◌}
 use mathlib.Core.Logic.{◌⊎◌, inl, inr}
 use mathlib.Core.Bool.{Bool, true, false, not, ◌&&◌, ◌||◌, or-true}
 use mathlib.Core.List.{List}
-use Prim.Native.Nat.{ℕ, ◌+◌, ◌-◌, ◌≤◌, ◌<◌}
-use native.Mathlib.Omega.{arith}
-use borrow.Author.Tests.{leb-true, le-leb, lt-leb, not-true}
+use Prim.Native.Nat.{ℕ, ◌+◌, ◌≤◌}
+use borrow.Author.Tests.{leb-true, le-leb, not-true}
 use lib.Dec.{leb}
 use lib.ListN.{length}
 use Rattle.lists.specs.Choice.{pick}
-use Rattle.lists.proofs.Tests.{true_left, true_right, ◌also◌, same_test, leb_iff}
+use Rattle.lists.proofs.Tests.{true_left, true_right, ◌also◌}
 use Rattle.interval.specs.Parts.{bad_interval}
 use Rattle.operators.specs.Operators.{one_fits, copy_fits, two_fit, four_fit, Operand}
 
--- ---- by a test, another list or the list as it was
-pub stays : (xs ys : List ℕ) {t : Bool} → t ≡ false → xs ≡ pick t ys xs
-stays xs ys e = sym (ap (λ (t : Bool). pick t ys xs) e)
-
+-- ---- by a test that holds, another list
 pub turns : (xs ys : List ℕ) {t : Bool} {zs : List ℕ} → t ≡ true → zs ≡ ys → zs ≡ pick t ys xs
 turns xs ys e q = q ∙ sym (ap (λ (t : Bool). pick t ys xs) e)
-
--- ---- one register behind another
-pub ends_late : (a b m : ℕ) → b < a → false ≡ leb (a + m) b
-ends_late a b m h = sym (lt-leb (a + m) b (omega arith))
-
-pub ends_by : (a b m : ℕ) → a ≤ b → leb m (b - a) ≡ leb (a + m) b
-ends_by a b m h = same_test (leb m (b - a)) (leb (a + m) b) (leb_iff m (b - a)) (leb_iff (a + m) b) (λ l. omega arith) (λ l. omega arith)
 
 -- ---- what the tests say
 module _ {a b m : ℕ} {xs : List ℕ} where

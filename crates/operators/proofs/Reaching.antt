@@ -22,7 +22,7 @@ use Rattle.column.proofs.Parts.{register_part, put_here, put_long, put_after, pa
 use Rattle.windows.specs.Windows.{third, misplaced, Three, all, any, used, until_later, release_later, whole_release_later}
 use Rattle.windows.proofs.Lays.{lay_swap, used_length, used_swap}
 use Rattle.windows.proofs.Results.{three_fits}
-use Rattle.operators.specs.Operators.{worked, until_laid, release_laid, whole_release_laid, Operand}
+use Rattle.operators.specs.Operators.{worked, Reaches}
 use Rattle.operators.proofs.Fits.{Four}
 use Rattle.operators.proofs.Laws.{laid_bits}
 
@@ -51,15 +51,6 @@ put_used Q a k xs e m ks f h l = go (eqb (length ks) 0)
     go false = put_lay a k xs (mid_of a k xs) h (length_register a k xs h) e m column l ∙ ap (lay (a + e) m column) (put_same a k xs)
 
 -- ---- two operands loaded
-pub first_load : {a c b l w m : ℕ} {xs : List ℕ} → Four a c b l w m (length xs) → Operand c b m xs
-first_load h = let i = h.result in let j = h.copy in let k = h.work in record { before = h.right; enough = omega arith }
-
-pub second_load : {a c b l w m : ℕ} {f : ℕ → Bool} {xs ys : List ℕ} → Four a c b l w m (length xs) → Laid b m f xs ys → Operand a l m ys
-second_load {xs = xs} h p =
-    let n = laid_length (first_load {xs = xs} h).enough p in
-    let g = h.left in let i = h.result in let j = h.copy in let k = h.work in
-    record { before = omega arith; enough = omega arith }
-
 module _ {a c b l w m : ℕ} {xs ys zs : List ℕ} (h : Four a c b l w m (length xs))
     (p : Laid b m (bit_at (register c m xs)) xs ys) (q : Laid l m (bit_at (register a m ys)) ys zs) where
   abbrev wide : ℕ
@@ -139,13 +130,11 @@ module _ {a c b l w m : ℕ} {xs ys zs : List ℕ} (h : Four a c b l w m (length
       ∙ ap (lay b m f) (lay_lay l m A (lay b m C U) (omega (arith, v, fits_l)) g ∙ lay_swap b m C l m g U i (omega (arith, u, fits_l)))
       ∙ lay_lay b m C (lay l m g U) (omega (arith, x, fits_b)) f
 
-  reaching : (Q : ℕ → (ℕ → Bool) → ℕ → Bool) (F : ℕ → (ℕ → Bool) → (ℕ → Bool) → ℕ → Bool) (G : ℕ → (ℕ → Bool) → ℕ → Bool) (ks : List ℕ) {us : List ℕ}
-      → us ≡ lay 0 (third (w - b) part)
-      (F (third (w - b) part) (bit_at (register (l - b) (third (w - b) part) part)) (bit_at (register 0 (third (w - b) part) part)))
-      (lay (l - b) (third (w - b) part) (G (third (w - b) part) (bit_at (register (l - b) (third (w - b) part) part)))
-      (used Q (w - b) (third (w - b) part) ks (G (third (w - b) part) (bit_at (register (l - b) (third (w - b) part) part))) part))
-      → put_mid b wide zs us ≡ worked Q b l w m ks (F m (bit_at (register a m xs)) (bit_at (register c m xs))) (G m (bit_at (register a m xs))) xs
-  reaching Q F G ks r =
+  pub reaching : (Q : ℕ → (ℕ → Bool) → ℕ → Bool) (op : ℕ → (ℕ → Bool) → (ℕ → Bool) → ℕ → Bool) (moves : ℕ → (ℕ → Bool) → ℕ → Bool) (ks : List ℕ) {refused : Bool} {us : List ℕ}
+      → refused ≡ false → Reaches refused Q op moves ks (l - b) (w - b) part us
+      → put_mid b wide zs us ≡ worked Q b l w m ks (op m (bit_at (register a m xs)) (bit_at (register c m xs))) (moves m (bit_at (register a m xs))) xs
+  unfolding worked
+  reaching Q F G ks fine r =
       let i = h.result in
       let j = h.copy in
       let e : third (w - b) part ≡ m = omega (arith, long_p) in
@@ -158,35 +147,25 @@ module _ {a c b l w m : ℕ} {xs ys zs : List ℕ} (h : Four a c b l w m (length
       in
       let A : ℕ → Bool = bit_at (register a m xs) in
       ap (put_mid b wide zs)
-      (r
-      ∙ ap (λ (k : ℕ).
-      lay 0 k (F k (bit_at (register (l - b) k part)) (bit_at (register 0 k part)))
-      (lay (l - b) k (G k (bit_at (register (l - b) k part))) (used Q (w - b) k ks (G k (bit_at (register (l - b) k part))) part))) e
-      ∙ ap₂ (λ (f g : ℕ → Bool). lay 0 m (F m f g) (lay (l - b) m (G m f) (used Q (w - b) m ks (G m f) part))) x y)
+      (r fine three
+      ∙ ap (λ (k : ℕ). worked Q 0 (l - b) (w - b) k ks (F k (bit_at (register (l - b) k part)) (bit_at (register 0 k part))) (G k (bit_at (register (l - b) k part))) part) e
+      ∙ ap₂ (λ (f g : ℕ → Bool). worked Q 0 (l - b) (w - b) m ks (F m f g) (G m f) part) x y)
       ∙ lifted Q ks (F m A (bit_at (register c m xs))) (G m A) ∙ loads_gone Q ks (F m A (bit_at (register c m xs))) (G m A)
 
-  module _ (lo hi : ℕ) (fine : bad_interval lo hi ≡ false) where
-    placed : (bad_interval lo hi || misplaced (l - b) (w - b) (length part)) ≡ false
-    placed = ap₂ ◌||◌ fine (three_fits three)
+-- ---- what U and R leave in a part
+module _ (lo hi : ℕ) {d e : ℕ} {xs us : List ℕ} where
+  pub until_reaches : us ≡ pick (bad_interval lo hi || misplaced d e (length xs)) xs (until_later d e lo hi xs)
+      → Reaches (bad_interval lo hi) all (λ k f g. until (64 * k) lo hi f g) (λ k f t. f (t + lo)) (parts (hi - lo)) d e xs us
+  unfolding until_later worked
+  until_reaches r fine h = r ∙ ap (λ (t : Bool). pick t xs (until_later d e lo hi xs)) (ap₂ ◌||◌ fine (three_fits h))
 
-    pub until_laid_lem : {us : List ℕ} → us ≡ pick (bad_interval lo hi || misplaced (l - b) (w - b) (length part)) part (until_later (l - b) (w - b) lo hi part)
-        → put_mid b wide zs us ≡ until_laid a c b l w m lo hi xs
-    unfolding until_later
-    until_laid_lem r =
-        reaching all (λ k f g. until (64 * k) lo hi f g) (λ k f t. f (t + lo)) (parts (hi - lo)) (r ∙ ap (λ (t : Bool). pick t part (until_later (l - b) (w - b) lo hi part)) placed)
+  pub whole_release_reaches : us ≡ pick (bad_interval lo hi || misplaced d e (length xs)) xs (whole_release_later d e lo hi xs)
+      → Reaches (bad_interval lo hi) any (λ k. whole_release lo hi) (λ k f t. f (t + lo)) (parts (hi - lo)) d e xs us
+  unfolding whole_release_later worked
+  whole_release_reaches r fine h = r ∙ ap (λ (t : Bool). pick t xs (whole_release_later d e lo hi xs)) (ap₂ ◌||◌ fine (three_fits h))
 
-    pub whole_release_laid_lem : {us : List ℕ}
-        → us ≡ pick (bad_interval lo hi || misplaced (l - b) (w - b) (length part)) part (whole_release_later (l - b) (w - b) lo hi part)
-        → put_mid b wide zs us ≡ whole_release_laid a c b l w m lo hi xs
-    unfolding whole_release_later
-    whole_release_laid_lem r =
-        reaching any (λ k. whole_release lo hi) (λ k f t. f (t + lo)) (parts (hi - lo)) (r ∙ ap (λ (t : Bool). pick t part (whole_release_later (l - b) (w - b) lo hi part)) placed)
-
-    pub release_laid_lem : (n : ℕ) {us : List ℕ}
-        → us ≡ pick (bad_interval lo hi || misplaced (l - b) (w - b) (length part)) part (release_later (l - b) (w - b) lo hi n part)
-        → put_mid b wide zs us ≡ release_laid a c b l w m lo hi n xs
-    unfolding release_later
-    release_laid_lem n r =
-        reaching all (λ k f g. below n (opposite (until (64 * k) lo hi (λ t. ltb t n && not (f t)) (λ t. ltb t n && not (g t)))))
-        (λ k f t. bit_at (pack k (λ u. ltb u n && not (f u))) (t + lo)) (parts (hi - lo))
-        (r ∙ ap (λ (t : Bool). pick t part (release_later (l - b) (w - b) lo hi n part)) placed)
+  pub release_reaches : (n : ℕ) → us ≡ pick (bad_interval lo hi || misplaced d e (length xs)) xs (release_later d e lo hi n xs)
+      → Reaches (bad_interval lo hi) all (λ k f g. below n (opposite (until (64 * k) lo hi (λ t. ltb t n && not (f t)) (λ t. ltb t n && not (g t)))))
+      (λ k f t. bit_at (pack k (λ u. ltb u n && not (f u))) (t + lo)) (parts (hi - lo)) d e xs us
+  unfolding release_later worked
+  release_reaches n r fine h = r ∙ ap (λ (t : Bool). pick t xs (release_later d e lo hi n xs)) (ap₂ ◌||◌ fine (three_fits h))

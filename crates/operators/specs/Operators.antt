@@ -1,15 +1,15 @@
 -- What each operator leaves in a list of words: the registers of its operands at a and c, its result's at b, m words of each.
-use Rattle.std.specs.Prelude.{Bool, ◌&&◌, ◌||◌, List, ℕ, ◌+◌, ◌-◌, ◌*◌, ◌≤◌, min, leb, length}
+use Rattle.std.specs.Prelude.{◌≡◌, Bool, false, ◌&&◌, ◌||◌, List, ℕ, ◌+◌, ◌-◌, ◌*◌, ◌≤◌, min, leb, length}
 use Rattle.limits.specs.Limits.{register_words}
 use Rattle.lists.specs.Bits.{bit_at, pack, below}
 use Rattle.mltl.specs.Mltl.{eventually, opposite}
 use Rattle.mltl.specs.Known.{whole, whole_release}
 use Rattle.interval.specs.Parts.{parts}
-use Rattle.column.specs.Column.{register, lay, filled, flipped}
+use Rattle.column.specs.Column.{register, lay, filled, flipped, Turned}
 use Rattle.pair.specs.Pair.{both}
 use Rattle.moves.specs.Moves.{moved}
 use Rattle.signal.specs.Signal.{signal_column}
-use Rattle.windows.specs.Windows.{until_of, release_of, all, any, used}
+use Rattle.windows.specs.Windows.{until_of, release_of, third, Three, all, any, used}
 
 -- ---- which places fit: each register ends before the result's begins, and that one within the n words of the list
 abbrev pub one_fits : ℕ → ℕ → ℕ → ℕ → Bool
@@ -52,6 +52,10 @@ abbrev pub or_laid : ℕ → ℕ → ℕ → ℕ → List ℕ → List ℕ
 or_laid a c b m xs = lay b m (both ◌||◌ (register a m xs) (register c m xs)) xs
 
 -- ---- F and G
+-- unless the interval is refused, each list that is made of xs is that of the column op of its bits
+abbrev pub Turns : (List ℕ → List ℕ → Type 0) → Bool → (ℕ → (ℕ → Bool) → ℕ → Bool) → Type 0
+Turns Makes refused op = refused ≡ false → (xs ys : List ℕ) → Makes xs ys → Turned (op (length xs) (bit_at xs)) xs ys
+
 abbrev pub some_laid : ℕ → ℕ → ℕ → ℕ → ℕ → List ℕ → List ℕ
 some_laid a b m lo hi xs = lay b m (eventually (64 * m) lo hi (bit_at (register a m xs))) xs
 
@@ -66,6 +70,14 @@ whole_laid a b m lo hi xs = lay b m (whole lo hi (bit_at (register a m xs))) xs
 -- the column f in the register at b, g in that at l, and that at w used for the parts ks of a window, by Q, all or any of its bits
 unfoldable pub worked : (ℕ → (ℕ → Bool) → ℕ → Bool) → ℕ → ℕ → ℕ → ℕ → List ℕ → (ℕ → Bool) → (ℕ → Bool) → List ℕ → List ℕ
 worked Q b l w m ks f g xs = lay b m f (lay l m g (used Q w m ks g xs))
+
+-- unless the interval is refused, such registers at 0, d and e of a list become the columns op of both operands' bits and `moves` of the left one's, and the last
+-- is used
+abbrev pub Reaches : Bool → (ℕ → (ℕ → Bool) → ℕ → Bool) → (ℕ → (ℕ → Bool) → (ℕ → Bool) → ℕ → Bool) → (ℕ → (ℕ → Bool) → ℕ → Bool) → List ℕ → ℕ → ℕ → List ℕ → List ℕ → Type 0
+Reaches refused Q op moves ks d e xs ys =
+    refused ≡ false → Three d e xs
+    → ys ≡ worked Q 0 d e (third e xs) ks (op (third e xs) (bit_at (register d (third e xs) xs)) (bit_at (register 0 (third e xs) xs)))
+    (moves (third e xs) (bit_at (register d (third e xs) xs))) xs
 
 -- the copy of the left operand ends as moved down by lo
 abbrev pub until_laid : ℕ → ℕ → ℕ → ℕ → ℕ → ℕ → ℕ → ℕ → List ℕ → List ℕ

@@ -2,13 +2,26 @@
 // the interval of F, G, U or R is refused, the slice stays as it was.
 #![tactic(auto)]
 
-ghost use Rattle.std.specs.Prelude.{◌≡◌, ◌&&◌, ◌||◌, not, ◌++◌, ◌+◌, leb, length};
+ghost use Rattle.std.specs.Fn.{FnOnceReturnsAtMut};
+ghost use Rattle.std.specs.Prelude.{◌≡◌, ℕ, Bool, ◌&&◌, ◌||◌, not, ◌++◌, ◌+◌, ◌-◌, leb, length};
 ghost use Rattle.lists.specs.Bits.{bit_at};
 ghost use Rattle.lists.specs.Choice.{pick};
-ghost use Rattle.interval.specs.Parts.{bad_interval};
-ghost use Rattle.column.specs.Column.{register, Laid};
-ghost use Rattle.pair.specs.Pair.{both};
-ghost use Rattle.operators.specs.Operators.{one_fits, copy_fits, two_fit, four_fit, signal_laid, fill_laid, copy_laid, not_laid, and_laid, or_laid, some_laid, all_laid, whole_laid, until_laid, release_laid, whole_release_laid, Operand};
+ghost use Rattle.interval.specs.Parts.{bad_interval, parts};
+ghost use Rattle.column.specs.Column.{register, lay, Laid};
+ghost use Rattle.pair.specs.Pair.{both, IntoSecond};
+ghost use Rattle.operators.specs.Operators.{one_fits, copy_fits, two_fit, four_fit, signal_laid, fill_laid, copy_laid, not_laid, and_laid, or_laid, some_laid, all_laid, whole_laid, until_laid, release_laid, whole_release_laid, worked, Operand, Turns, Reaches};
+
+// Where the registers of U and R begin, and how many words each has: those of the operands and of the result, and behind it one for a copy of the left
+// operand and one to work in.
+#[derive(Clone, Copy, Debug, PartialEq, Eq)]
+pub struct Places {
+    pub left: usize,
+    pub right: usize,
+    pub result: usize,
+    pub copy: usize,
+    pub work: usize,
+    pub words: usize,
+}
 
 // ---- tests
 
@@ -16,10 +29,7 @@ ghost use Rattle.operators.specs.Operators.{one_fits, copy_fits, two_fit, four_f
 fn apart(a: usize, b: usize, m: usize) -> bool
     ensures { result ≡ leb (a + m) b }
 {
-    if b < a {
-        return false;
-    }
-    m <= b - a
+    a <= b && m <= b - a
 }
 
 // Whether the registers at a and b fit into `len` words.
@@ -36,11 +46,13 @@ fn two_fit(a: usize, c: usize, b: usize, m: usize, len: usize) -> bool
     one_fits(a, b, m, len) & apart(c, b, m)
 }
 
-// The same with two more registers at l and w, behind that at b.
-fn four_fit(a: usize, c: usize, b: usize, l: usize, w: usize, m: usize, len: usize) -> bool
-    ensures { result ≡ four_fit a c b l w m len }
+// The registers of U and R.
+fn four_fit(p: Places, len: usize) -> bool
+    ensures { result ≡ four_fit p.left p.right p.result p.copy p.work p.words len }
 {
-    two_fit(a, c, b, m, l) & apart(l, w, m) & apart(w, len, m)
+    two_fit(p.left, p.right, p.result, p.words, p.copy)
+        & apart(p.copy, p.work, p.words)
+        & apart(p.work, len, p.words)
 }
 
 // ---- steps
@@ -61,24 +73,6 @@ fn load_back(s: &mut [u64], a: usize, b: usize, m: usize)
 {
     let e = a + m;
     pair::copy_back(&mut s[b..e], a - b);
-}
-
-// Bit t of the register at b becomes that bit and bit t of the register at a.
-fn and_with(s: &mut [u64], a: usize, b: usize, m: usize)
-    requires { Operand a b m s.old }
-    ensures { Laid b m (both ◌&&◌ (register b m s.old) (register a m s.old)) s.old s.new }
-{
-    let e = b + m;
-    pair::and_into(&mut s[a..e], b - a);
-}
-
-// Bit t of the register at b becomes that bit or bit t of the register at a.
-fn or_with(s: &mut [u64], a: usize, b: usize, m: usize)
-    requires { Operand a b m s.old }
-    ensures { Laid b m (both ◌||◌ (register b m s.old) (register a m s.old)) s.old s.new }
-{
-    let e = b + m;
-    pair::or_into(&mut s[a..e], b - a);
 }
 
 // ---- no operand
@@ -133,33 +127,54 @@ pub fn put_not(s: &mut [u64], a: usize, b: usize, m: usize, n: usize)
     column::complement(&mut s[b..e], n);
 }
 
-// Bit t is set where it is in both operands.
-pub fn put_and(s: &mut [u64], a: usize, c: usize, b: usize, m: usize)
-    ensures { s.new ≡ pick (two_fit a c b m (length s.old)) (and_laid a c b m s.old) s.old }
+// The register at b becomes a copy of the left operand's, and then what `join` makes of both operands.
+fn put_pair<F: FnOnce(&mut [u64], usize)>(
+    s: &mut [u64],
+    a: usize,
+    c: usize,
+    b: usize,
+    m: usize,
+    join: F,
+)
+    requires { F.IsAlwaysCallable join }
+    ensures { (op : Bool → Bool → Bool) → ((part left : _) (d : ℕ) → F.post join part d tt left → IntoSecond (both op) d part.now left.now) → s.new ≡ pick (two_fit a c b m (length s.old)) (lay b m (both op (register a m s.old) (register c m s.old)) s.old) s.old }
 {
     if !two_fit(a, c, b, m, s.len()) {
         return;
     }
+    let e = b + m;
     load(s, a, b, m);
-    and_with(s, c, b, m);
+    join(&mut s[c..e], b - c);
+}
+
+// Bit t is set where it is in both operands.
+pub fn put_and(s: &mut [u64], a: usize, c: usize, b: usize, m: usize)
+    ensures { s.new ≡ pick (two_fit a c b m (length s.old)) (and_laid a c b m s.old) s.old }
+{
+    put_pair(s, a, c, b, m, |part, d| pair::and_into(part, d));
 }
 
 // Bit t is set where it is in one of the operands.
 pub fn put_or(s: &mut [u64], a: usize, c: usize, b: usize, m: usize)
     ensures { s.new ≡ pick (two_fit a c b m (length s.old)) (or_laid a c b m s.old) s.old }
 {
-    if !two_fit(a, c, b, m, s.len()) {
-        return;
-    }
-    load(s, a, b, m);
-    or_with(s, c, b, m);
+    put_pair(s, a, c, b, m, |part, d| pair::or_into(part, d));
 }
 
 // ---- windows
 
-// F: bit t becomes whether one of the operand's bits from t + lo to t + hi is set.
-pub fn put_some(s: &mut [u64], a: usize, b: usize, m: usize, lo: u16, hi: u16)
-    ensures { s.new ≡ pick (one_fits a b m (length s.old) && not (bad_interval lo hi)) (some_laid a b m lo hi s.old) s.old }
+// The register at b becomes what `run` makes of a copy of the operand's.
+fn put_window<F: FnOnce(&mut [u64])>(
+    s: &mut [u64],
+    a: usize,
+    b: usize,
+    m: usize,
+    lo: u16,
+    hi: u16,
+    run: F,
+)
+    requires { F.IsAlwaysCallable run }
+    ensures { (op : ℕ → (ℕ → Bool) → ℕ → Bool) → Turns (λ xs ys. FnOnceReturnsAtMut F.FnOnce run xs tt ys) (bad_interval lo hi) op → s.new ≡ pick (one_fits a b m (length s.old) && not (bad_interval lo hi)) (lay b m (op m (bit_at (register a m s.old))) s.old) s.old }
 {
     let fit = one_fits(a, b, m, s.len()) & !interval::bad_interval(lo, hi);
     if !fit {
@@ -167,20 +182,29 @@ pub fn put_some(s: &mut [u64], a: usize, b: usize, m: usize, lo: u16, hi: u16)
     }
     let e = b + m;
     load(s, a, b, m);
-    windows::some_later(&mut s[b..e], lo, hi);
+    run(&mut s[b..e]);
+}
+
+// F: bit t becomes whether one of the operand's bits from t + lo to t + hi is set.
+pub fn put_some(s: &mut [u64], a: usize, b: usize, m: usize, lo: u16, hi: u16)
+    ensures { s.new ≡ pick (one_fits a b m (length s.old) && not (bad_interval lo hi)) (some_laid a b m lo hi s.old) s.old }
+{
+    put_window(s, a, b, m, lo, hi, |part| windows::some_later(part, lo, hi));
 }
 
 // G: bit t becomes whether all of the operand's bits from t + lo to t + hi that lie below n are set; from n on every bit is clear.
 pub fn put_all(s: &mut [u64], a: usize, b: usize, m: usize, lo: u16, hi: u16, n: usize)
     ensures { s.new ≡ pick (one_fits a b m (length s.old) && not (bad_interval lo hi)) (all_laid a b m lo hi n s.old) s.old }
 {
-    let fit = one_fits(a, b, m, s.len()) & !interval::bad_interval(lo, hi);
-    if !fit {
-        return;
-    }
-    let e = b + m;
-    load(s, a, b, m);
-    windows::all_later(&mut s[b..e], lo, hi, n);
+    put_window(
+        s,
+        a,
+        b,
+        m,
+        lo,
+        hi,
+        |part| windows::all_later(part, lo, hi, n),
+    );
 }
 
 // F's no and G's yes while a trace grows: bit t becomes whether all of the operand's bits from t + lo to t + hi are set, those past the words included, which
@@ -188,85 +212,75 @@ pub fn put_all(s: &mut [u64], a: usize, b: usize, m: usize, lo: u16, hi: u16, n:
 pub fn put_whole(s: &mut [u64], a: usize, b: usize, m: usize, lo: u16, hi: u16)
     ensures { s.new ≡ pick (one_fits a b m (length s.old) && not (bad_interval lo hi)) (whole_laid a b m lo hi s.old) s.old }
 {
-    let fit = one_fits(a, b, m, s.len()) & !interval::bad_interval(lo, hi);
-    if !fit {
-        return;
-    }
-    let e = b + m;
-    load(s, a, b, m);
-    windows::whole_later(&mut s[b..e], lo, hi);
+    put_window(
+        s,
+        a,
+        b,
+        m,
+        lo,
+        hi,
+        |part| windows::whole_later(part, lo, hi),
+    );
 }
 
-// U of the left operand at a and the right one at c. The registers at l, for a copy of the left one, and at w are worked in.
-pub fn put_until(
+// The result's register becomes a copy of the right operand's, and then what `run` makes of it and of a copy of the left operand's.
+fn put_reach<F: FnOnce(&mut [u64], usize, usize)>(
     s: &mut [u64],
-    a: usize,
-    c: usize,
-    b: usize,
-    l: usize,
-    w: usize,
-    m: usize,
+    p: Places,
     lo: u16,
     hi: u16,
+    run: F,
 )
-    ensures { s.new ≡ pick (four_fit a c b l w m (length s.old) && not (bad_interval lo hi)) (until_laid a c b l w m lo hi s.old) s.old }
+    requires { F.IsAlwaysCallable run }
+    ensures { (Q : ℕ → (ℕ → Bool) → ℕ → Bool) (op : ℕ → (ℕ → Bool) → (ℕ → Bool) → ℕ → Bool) (moves : ℕ → (ℕ → Bool) → ℕ → Bool) → ((part left : _) (d e : ℕ) → F.post run part d e tt left → Reaches (bad_interval lo hi) Q op moves (parts (hi - lo)) d e part.now left.now) → s.new ≡ pick (four_fit p.left p.right p.result p.copy p.work p.words (length s.old) && not (bad_interval lo hi)) (worked Q p.result p.copy p.work p.words (parts (hi - lo)) (op p.words (bit_at (register p.left p.words s.old)) (bit_at (register p.right p.words s.old))) (moves p.words (bit_at (register p.left p.words s.old))) s.old) s.old }
 {
-    let fit = four_fit(a, c, b, l, w, m, s.len()) & !interval::bad_interval(lo, hi);
+    let fit = four_fit(p, s.len()) & !interval::bad_interval(lo, hi);
     if !fit {
         return;
     }
-    let e = w + m;
-    load(s, c, b, m);
-    load(s, a, l, m);
-    windows::until_later(&mut s[b..e], l - b, w - b, lo, hi);
+    let b = p.result;
+    let e = p.work + p.words;
+    load(s, p.right, b, p.words);
+    load(s, p.left, p.copy, p.words);
+    run(&mut s[b..e], p.copy - b, p.work - b);
 }
 
-// R, with the same registers, of columns of n bits.
-pub fn put_release(
-    s: &mut [u64],
-    a: usize,
-    c: usize,
-    b: usize,
-    l: usize,
-    w: usize,
-    m: usize,
-    lo: u16,
-    hi: u16,
-    n: usize,
-)
-    ensures { s.new ≡ pick (four_fit a c b l w m (length s.old) && not (bad_interval lo hi)) (release_laid a c b l w m lo hi n s.old) s.old }
+// U of the operands.
+pub fn put_until(s: &mut [u64], p: Places, lo: u16, hi: u16)
+    ensures { s.new ≡ pick (four_fit p.left p.right p.result p.copy p.work p.words (length s.old) && not (bad_interval lo hi)) (until_laid p.left p.right p.result p.copy p.work p.words lo hi s.old) s.old }
 {
-    let fit = four_fit(a, c, b, l, w, m, s.len()) & !interval::bad_interval(lo, hi);
-    if !fit {
-        return;
-    }
-    let e = w + m;
-    load(s, c, b, m);
-    load(s, a, l, m);
-    windows::release_later(&mut s[b..e], l - b, w - b, lo, hi, n);
+    put_reach(
+        s,
+        p,
+        lo,
+        hi,
+        |part, d, e| windows::until_later(part, d, e, lo, hi),
+    );
 }
 
-// The same registers for U's no and R's yes while a trace grows: bit t becomes whether each bit of the operand at c from t + lo to t + hi is set or has a set
-// bit of the operand at a before it, from t + lo on; those past the words count too, which are clear.
-pub fn put_whole_release(
-    s: &mut [u64],
-    a: usize,
-    c: usize,
-    b: usize,
-    l: usize,
-    w: usize,
-    m: usize,
-    lo: u16,
-    hi: u16,
-)
-    ensures { s.new ≡ pick (four_fit a c b l w m (length s.old) && not (bad_interval lo hi)) (whole_release_laid a c b l w m lo hi s.old) s.old }
+// R of the operands, columns of n bits.
+pub fn put_release(s: &mut [u64], p: Places, lo: u16, hi: u16, n: usize)
+    ensures { s.new ≡ pick (four_fit p.left p.right p.result p.copy p.work p.words (length s.old) && not (bad_interval lo hi)) (release_laid p.left p.right p.result p.copy p.work p.words lo hi n s.old) s.old }
 {
-    let fit = four_fit(a, c, b, l, w, m, s.len()) & !interval::bad_interval(lo, hi);
-    if !fit {
-        return;
-    }
-    let e = w + m;
-    load(s, c, b, m);
-    load(s, a, l, m);
-    windows::whole_release_later(&mut s[b..e], l - b, w - b, lo, hi);
+    put_reach(
+        s,
+        p,
+        lo,
+        hi,
+        |part, d, e| windows::release_later(part, d, e, lo, hi, n),
+    );
+}
+
+// U's no and R's yes while a trace grows: bit t becomes whether each bit of the right operand from t + lo to t + hi is set or has a set bit of the left one
+// before it, from t + lo on; those past the words count too, which are clear.
+pub fn put_whole_release(s: &mut [u64], p: Places, lo: u16, hi: u16)
+    ensures { s.new ≡ pick (four_fit p.left p.right p.result p.copy p.work p.words (length s.old) && not (bad_interval lo hi)) (whole_release_laid p.left p.right p.result p.copy p.work p.words lo hi s.old) s.old }
+{
+    put_reach(
+        s,
+        p,
+        lo,
+        hi,
+        |part, d, e| windows::whole_release_later(part, d, e, lo, hi),
+    );
 }

@@ -1,14 +1,17 @@
 -- Two registers in one list: one of them is written word by word; and both as a part of a longer list. Assumes nothing.
-use mathlib.Core.Path.{◌≡◌, ap, ap₂, ◌∙◌, subst}
+use mathlib.Core.Path.{◌≡◌, refl, sym, ap, ap₂, ◌∙◌, subst}
 use mathlib.Core.Logic.{◌⊎◌, inl, inr}
 use mathlib.Core.Bool.{Bool}
-use mathlib.Core.List.{List}
-use Prim.Native.Nat.{ℕ, ◌+◌, ◌^◌, ◌≤◌, ◌<◌}
+use mathlib.Core.List.{List, ◌++◌}
+use Prim.Native.Nat.{ℕ, ◌+◌, ◌-◌, ◌^◌, ◌≤◌, ◌<◌}
 use native.Mathlib.Nat.{le_antisymm}
 use native.Mathlib.Omega.{arith}
-use lib.ListN.{length, get_or, set}
+use lib.ListN.{length, get_or, set, take, drop}
+use lib.Seq.{paste, take-take}
 use borrow.Rule.Slice.PartMut.{put_mid, mid_of}
-use Rattle.lists.specs.Bits.{bit_at}
+use Rattle.lists.specs.Bits.{bit_at, pack}
+use Rattle.lists.proofs.Columns.{pack_is}
+use Rattle.column.proofs.Registers.{length_register, register_lt}
 use Rattle.column.specs.Column.{register, lay, Laid, Swept, WordOf}
 use Rattle.column.proofs.Sweeps.{swept_none, swept_more, swept_to, swept_laid, own_ahead}
 use Rattle.column.proofs.Parts.{register_part, part_laid}
@@ -73,6 +76,15 @@ into_next {at = at} {bt = bt} {m = m} {i = i} {j = j} {x = x} {ys = ys} r h a b 
       upto = omega arith;
       room = e;
     }
+
+-- a register that was copied
+pub laid_copy : (at bt j m : ℕ) {xs ys : List ℕ} → ((w : ℕ) → get_or xs w 0 < 2 ^ 64) → bt + m ≤ length xs → j - bt ≡ m → ys ≡ paste xs at (drop bt xs) (j - bt)
+    → Laid at m (bit_at (register bt m xs)) xs ys
+laid_copy at bt j m {xs} fits l e q =
+    let r : List ℕ = register bt m xs in
+    let same : take m (drop bt xs) ≡ take m (pack m (bit_at r)) =
+    sym (take-take m m (drop bt xs) (omega arith)) ∙ ap (take m) (pack_is r m (bit_at r) (length_register bt m xs l) (register_lt bt m xs fits) (λ t h. refl)) in
+    record { is = q ∙ ap (paste xs at (drop bt xs)) e ∙ ap (λ (p : List ℕ). take at xs ++ p ++ drop (at + m) xs) same }
 
 -- a part that begins with one register and ends with another, of which one was laid
 pub part_pair : (op : List ℕ → List ℕ → ℕ → Bool) {d at bt : ℕ} (p : Places d at bt) (a k m : ℕ) (xs : List ℕ) {i j : ℕ} {ys : List ℕ} → room d (mid_of a k xs) ≡ m

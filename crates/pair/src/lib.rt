@@ -2,21 +2,16 @@
 // from d on, and at most d.
 #![tactic(auto)]
 
-ghost use Rattle.std.specs.Prelude.{◌≡◌, ◌||◌, ◌&&◌, ◌-◌, min};
+ghost use Rattle.std.specs.Prelude.{◌≡◌, Bool, ◌||◌, ◌&&◌, ◌-◌, min};
 ghost use Rattle.lists.specs.Bits.{bit_at};
+ghost use Rattle.column.specs.Column.{Bitwise};
 ghost use Rattle.pair.specs.Pair.{both, IntoSecond, IntoFirst};
 
 // How many words each of two registers has in a slice of `len`.
 pub fn room_of(len: usize, d: usize) -> usize
     ensures { result ≡ min (len - d) d }
 {
-    if len <= d {
-        return 0;
-    }
-    if len - d < d {
-        return len - d;
-    }
-    d
+    len.saturating_sub(d).min(d)
 }
 
 // Bit t of the second register becomes bit t of the first.
@@ -24,9 +19,8 @@ pub fn copy_into(s: &mut [u64], d: usize)
     ensures { IntoSecond (λ b a. bit_at a) d s.old s.new }
 {
     let words = room_of(s.len(), d);
-    for w in 0..words {
-        let m = s[w];
-        s[d + w] = m;
+    if words > 0 {
+        s.copy_within(..words, d);
     }
 }
 
@@ -35,9 +29,20 @@ pub fn copy_back(s: &mut [u64], d: usize)
     ensures { IntoFirst (λ a b. bit_at b) d s.old s.new }
 {
     let words = room_of(s.len(), d);
+    if words > 0 {
+        s.copy_within(d..d + words, 0);
+    }
+}
+
+// Each word of the second register becomes what `f` makes of it and of that word of the first.
+fn into_second<F: Fn(u64, u64) -> u64>(s: &mut [u64], d: usize, f: F)
+    requires { F.IsAlwaysCallable f }
+    ensures { (op : Bool → Bool → Bool) → Bitwise (F.post f) op → IntoSecond (both op) d s.old s.new }
+{
+    let words = room_of(s.len(), d);
+    // By index, since both registers lie in one slice.
     for w in 0..words {
-        let m = s[d + w];
-        s[w] = m;
+        s[d + w] = f(s[d + w], s[w]);
     }
 }
 
@@ -45,20 +50,12 @@ pub fn copy_back(s: &mut [u64], d: usize)
 pub fn and_into(s: &mut [u64], d: usize)
     ensures { IntoSecond (both ◌&&◌) d s.old s.new }
 {
-    let words = room_of(s.len(), d);
-    for w in 0..words {
-        let m = s[d + w] & s[w];
-        s[d + w] = m;
-    }
+    into_second(s, d, |own, other| own & other);
 }
 
 // Bit t of the second register becomes that bit or bit t of the first.
 pub fn or_into(s: &mut [u64], d: usize)
     ensures { IntoSecond (both ◌||◌) d s.old s.new }
 {
-    let words = room_of(s.len(), d);
-    for w in 0..words {
-        let m = s[d + w] | s[w];
-        s[d + w] = m;
-    }
+    into_second(s, d, |own, other| own | other);
 }

@@ -4,23 +4,16 @@ use native.Mathlib.Numerals.{add-one}
 use native.Mathlib.Omega.{arith}
 use mathlib.Core.Path.{◌≡◌, sym, ap, ◌∙◌}
 use mathlib.Core.Logic.{⊎_elim}
-use mathlib.Core.Bool.{Bool, true, false}
 use mathlib.Core.List.{List, ◌∷◌}
-use lib.Dec.{eqb}
 use lib.ListN.{length, drop, length-drop, drop_of_length-le}
 use lib.Seq.{drop-cons}
-use borrow.Author.Tests.{eqb-true, eqb-false}
 use Rattle.lists.proofs.Tests.{lt_or_le}
-use Rattle.grammar.specs.Grammar.{Spaces, none as no-space, one, is_digit}
+use Rattle.grammar.specs.Grammar.{Spaces, none as no-space, one}
 use Rattle.grammar.specs.Machine.{Config, Next, on, stop, Fault, step, follow, fate}
 use Rattle.grammar.proofs.Runs.{Runs, still, moves, fated}
 use Rattle.grammar.specs.Tape.{Tape, tapes}
 use Rattle.parser.specs.Reads.{from, byte_at}
-use Rattle.parser.specs.Code.{IsAt, DigitAt, Skipped}
-
--- ---- tests
-pub at_place : (t r : Bool) → r ≡ t → r ≡ true → t ≡ true
-at_place t r e h = sym e ∙ h
+use Rattle.parser.specs.Code.{Skipped}
 
 module _ (text : List ℕ) where
   pub whole : (i : ℕ) → i < length text → drop i text ≡ byte_at text i ∷ drop (i + 1) text
@@ -38,7 +31,7 @@ module _ (text : List ℕ) where
       ap (λ (l : List ℕ). fate tapes 32 c i l) (whole i h)
       ∙ ap (λ (n : Next Tape ℕ). follow tapes n (λ (k : Config Tape ℕ). fate tapes 32 k (i + 1) (drop (i + 1) text)) i (drop (i + 1) text)) s
 
-  pub from_end : (c : Config Tape ℕ) (i : ℕ) → length text ≤ i → from text c i ≡ Fault 32 i
+  from_end : (c : Config Tape ℕ) (i : ℕ) → length text ≤ i → from text c i ≡ Fault 32 i
   unfolding fate
   from_end c i h = ap (λ (l : List ℕ). fate tapes 32 c i l) (drop_of_length-le text h)
 
@@ -74,9 +67,6 @@ module _ (text : List ℕ) where
       f.same ∙ ap (λ (m : ℕ). fate tapes 32 c m (drop j text)) e
 
   -- ---- skip
-  pub skip_start : (i : ℕ) → i ≤ length text → Spaces (drop i text) (drop i text)
-  skip_start i h = no-space
-
   spaces_snoc : {bs m r : List ℕ} → Spaces bs m → m ≡ 32 ∷ r → Spaces bs r
   spaces_snoc no-space e = rw e (one no-space)
   spaces_snoc (one s) e = one (spaces_snoc s e)
@@ -84,17 +74,3 @@ module _ (text : List ℕ) where
   pub skip_more : (i j : ℕ) → Spaces (drop i text) (drop j text) → j < length text → byte_at text j ≡ 32 → Spaces (drop i text) (drop (j + 1) text)
   skip_more i j s l e =
       spaces_snoc s (whole j l ∙ ap (λ (x : ℕ). x ∷ drop (j + 1) text) e)
-
--- ---- a test of the byte at a place
-module _ (text : List ℕ) (i : ℕ) where
-  pub is_at_in : (x : ℕ) → i < length text → IsAt text i x (eqb (byte_at text i) x)
-  is_at_in x h = record { inside = λ e. h; byte = λ e. eqb-true (byte_at text i) x e; other = λ e l. eqb-false (byte_at text i) x e }
-
-  pub is_at_out : (x : ℕ) → length text ≤ i → IsAt text i x false
-  is_at_out x h = record { inside = λ e. absurd (let z : ◌≡◌ {A = ℕ} 0 1 = cc in omega arith); byte = λ e. absurd (let z : ◌≡◌ {A = ℕ} 0 1 = cc in omega arith); other = λ e l. absurd (omega arith) }
-
-  pub digit_in : i < length text → DigitAt text i (is_digit (byte_at text i))
-  digit_in h = record { inside = λ e. h; digit = λ e. e; other = λ e l. e }
-
-  pub digit_out : length text ≤ i → DigitAt text i false
-  digit_out h = record { inside = λ e. absurd (let z : ◌≡◌ {A = ℕ} 0 1 = cc in omega arith); digit = λ e. absurd (let z : ◌≡◌ {A = ℕ} 0 1 = cc in omega arith); other = λ e l. absurd (omega arith) }

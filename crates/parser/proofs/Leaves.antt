@@ -1,47 +1,47 @@
 -- What each return of the leaves promises. Assumes nothing.
-use Prim.Native.Nat.{ℕ, ◌+◌, ◌*◌, ◌-◌, ◌≤◌, ◌<◌, min}
+use Prim.Native.Nat.{ℕ, ◌+◌, ◌*◌, ◌-◌, ◌≤◌, ◌<◌, min, max}
 use native.Mathlib.Omega.{arith}
 use mathlib.Core.Path.{◌≡◌, refl, sym, ap, ◌∙◌}
 use mathlib.Core.Bool.{Bool, true, false}
 use mathlib.Core.List.{List, [], ◌∷◌}
-use lib.Dec.{leb, eqb}
+use lib.Dec.{eqb}
 use lib.ListN.{length, get_or, drop}
 use lib.Seq.{drop-cons}
 use native.Mathlib.Numerals.{add-one}
-use borrow.Author.Tests.{leb-true, eqb-false, ne_eqb}
-use Rattle.lists.proofs.Tests.{true_left, true_right}
+use borrow.Author.Tests.{eqb-true, eqb-false, ne_eqb}
+use Rattle.lists.specs.Choice.{pick}
 use Rattle.grammar.specs.Grammar.{is_digit}
 use Rattle.grammar.specs.declared.Item.{Item}
-use Rattle.grammar.specs.Machine.{item, Purpose, Name, Sig, Lo, Hi, ToLo, wanted, Awaited, First, Stack, bottom, push, AwaitNumber, InNumber, AwaitByte, AllRead, Config, cf, Next, on, Fate, Finished, spaced, number_read, spelt, atom_done, go, step, follow, fate}
+use Rattle.grammar.specs.Machine.{Purpose, Name, Sig, Lo, Hi, wanted, Awaited, First, Stack, bottom, push, AwaitNumber, InNumber, AwaitByte, AllRead, Config, cf, Next, on, Fate, Fault, Finished, spaced, number_read, spelt, atom_done, go, step, follow, fate}
 use Rattle.grammar.proofs.Runs.{dig_like, dig_more, num_first}
 use Rattle.grammar.proofs.Steps.{want_yes, want_no, want_space, number_no, number_space, nought_step, word_yes, word_no, closed_yes, closed_no, closed_space, closed_line, closed_line_no}
 use Rattle.grammar.specs.Images.{sat}
 use Rattle.grammar.specs.Tape.{Tape, tapes}
+use Rattle.refusals.specs.Refusals.{number_of as refusal_number}
+use Rattle.refusals.proofs.Positive.{refusal_above}
+use Rattle.parser.specs.declared.faults.Fault.{Fault as AtFault}
 use Rattle.parser.specs.Reads.{from, told, byte_at}
-use Rattle.parser.specs.Code.{Skipped, Grown, Numbered, goal_of, Expected, Bounded, Spanned, Spelt, Windowed}
+use Rattle.parser.specs.Code.{Skipped, Grown, Numbered, goal_of, Expected, Bounded, Spelt}
 use Rattle.parser.proofs.Laws.{whole, from_on, from_bad, from_like, from_spaces}
 
--- ---- digits
-pub digit_low : (x : ℕ) → is_digit x ≡ true → 48 ≤ x
-digit_low x h = leb-true 48 x (true_left (leb 48 x) (leb x 57) h)
-
-pub digit_high : (x : ℕ) → is_digit x ≡ true → x ≤ 57
-digit_high x h = leb-true x 57 (true_right (leb 48 x) (leb x 57) h)
-
-pub grow_small : (v x : ℕ) → v < 100000 → is_digit x ≡ true → 10 * v + (x - 48) ≡ sat v (x - 48)
-unfolding sat
-grow_small v x h d = let l = digit_high x d in omega arith
-
-pub grow_large : (v x : ℕ) → 100000 ≤ v → 1000000 ≡ sat v (x - 48)
-unfolding sat
-grow_large v x h = omega arith
-
 -- the number of a fault is not 0
+pub faulty : (f : AtFault) → refusal_number f.refusal ≡ 0 → ⊥
+faulty f = refusal_above f.refusal
+
+-- so that it is told
 pub told_not : (n j : ℕ) (x y : Fate Tape) → (n ≡ 0 → ⊥) → told n j x ≡ told n j y
 told_not n j x y h = rw (ne_eqb n 0 h)
 
 pub told_ok : (n j : ℕ) (x : Fate Tape) → n ≡ 0 → told n j x ≡ x
 told_ok n j x h = rw h
+
+-- what else there is matters only where there is no fault
+pub told_by : (n j : ℕ) (x y : Fate Tape) → (n ≡ 0 → x ≡ y) → told n j x ≡ told n j y
+told_by n j x y f = go (eqb n 0) (λ e. f (eqb-true n 0 e))
+  where
+    go : (b : Bool) → (b ≡ true → x ≡ y) → pick b x (Fault n j) ≡ pick b y (Fault n j)
+    go true g = g refl
+    go false g = refl
 
 module _ (text : List ℕ) where
   -- a byte that is known
@@ -51,12 +51,9 @@ module _ (text : List ℕ) where
   -- ---- numbers
   pub record Grows (i v j w : ℕ) : Type 0 where
     pub later : i ≤ j
-    pub inside : j ≤ length text
+    pub inside : j ≤ max i (length text)
     pub some : eqb v 0 ≡ false → eqb w 0 ≡ false
     pub same : (q : Purpose) (p : Awaited ℕ) (is : List Item) (st : Stack ℕ) (β : Tape) → eqb v 0 ≡ false → from text (cf (InNumber q v) p is st β) i ≡ from text (cf (InNumber q w) p is st β) j
-
-  pub grows_none : {i v : ℕ} → i ≤ length text → Grows i v i v
-  grows_none {i} {v} h = record { later = omega arith; inside = h; some = λ e. e; same = λ q p is st β e. refl }
 
   sat_some : (n d : ℕ) → eqb n 0 ≡ false → eqb (sat n d) 0 ≡ false
   unfolding sat
@@ -65,7 +62,7 @@ module _ (text : List ℕ) where
   pub grows_more : {i v j w z : ℕ} → Grows i v j w → j < length text → is_digit (byte_at text j) ≡ true → z ≡ sat w (byte_at text j - 48) → Grows i v (j + 1) z
   grows_more {i} {v} {j} {w} {z} g h d e =
       record {
-        later = let l = g.later in omega arith;
+        later = omega arith;
         inside = omega arith;
         some = λ k. rw e (sat_some w (byte_at text j - 48) (g.some k));
         same = λ q p is st β k.
@@ -85,11 +82,11 @@ module _ (text : List ℕ) where
             (λ h. (dig_like tapes 32 q w p is st β).at (byte_at text j) (f h));
       }
 
-  pub number_bad : {i : ℕ} → i ≤ length text → (i < length text → is_digit (byte_at text i) ≡ false) → Numbered text i 32 i 0
-  number_bad {i} h f =
+  pub number_bad : {i : ℕ} → (i < length text → is_digit (byte_at text i) ≡ false) → Numbered text i 32 i 0
+  number_bad {i} f =
       record {
         later = omega arith;
-        inside = h;
+        inside = omega arith;
         same = λ q p is st β k. from_bad text (cf (AwaitNumber q) p is st β) i (λ l. number_no tapes 32 p is st β q (byte_at text i) (f l) (λ s. k s l));
       }
 
@@ -104,15 +101,14 @@ module _ (text : List ℕ) where
             ∙ from_like text (cf (InNumber q 0) p is st β) (number_read tapes q 0 p is st β) (i + 1) (λ l. nought_step tapes 32 p is st β q (byte_at text (i + 1)));
       }
 
-  pub number_some : {i n j v : ℕ} → i < length text → is_digit (byte_at text i) ≡ true → (byte_at text i - 48 ≡ 0 → ⊥) → Grown text (i + 1) (byte_at text i - 48) j v → n ≡ 0 → Numbered text i n j v
-  number_some {i} {n} {j} {v} h d e g z =
+  pub number_some : {i j v : ℕ} → i < length text → is_digit (byte_at text i) ≡ true → (byte_at text i - 48 ≡ 0 → ⊥) → Grown text (i + 1) (byte_at text i - 48) j v → Numbered text i 0 j v
+  number_some {i} {j} {v} h d e g =
       record {
-        later = let l = g.later in omega arith;
-        inside = g.inside;
+        later = omega arith;
+        inside = omega arith;
         same = λ q p is st β k.
             from_on text (cf (AwaitNumber q) p is st β) (cf (InNumber q (byte_at text i - 48)) p is st β) i h (num_first tapes 32 q p is st β (byte_at text i) d)
-            ∙ g.same q p is st β (ne_eqb (byte_at text i - 48) 0 e)
-            ∙ sym (told_ok n j (from text (number_read tapes q v p is st β) j) z);
+            ∙ g.same q p is st β (ne_eqb (byte_at text i - 48) 0 e);
       }
 
   -- ---- a wanted byte
@@ -126,7 +122,7 @@ module _ (text : List ℕ) where
   pub expect_yes : {i j x : ℕ} → Skipped text i j → j < length text → byte_at text j ≡ x → Expected text i x 0 (j + 1)
   expect_yes {i} {j} {x} s h e =
       record {
-        later = let l = s.later in omega arith;
+        later = omega arith;
         further = λ z. (let l = s.later in omega arith);
         inside = omega arith;
         same = λ g p is st β w.
@@ -165,9 +161,9 @@ module _ (text : List ℕ) where
   pub bound_bad : {i j x n k v : ℕ} → Skipped text i j → Numbered text j n k v → (n ≡ 0 → ⊥) → Bounded text i x n k v
   bound_bad {i} {j} {x} {n} {k} {v} s m z =
       record {
-        later = let a = s.later in let b = m.later in omega arith;
+        later = omega arith;
         further = λ y. absurd (z y);
-        inside = m.inside;
+        inside = omega arith;
         same = λ q p is st β h w. to_number i j n k v s m q p is st β h ∙ told_not n k _ _ z;
       }
 
@@ -180,9 +176,9 @@ module _ (text : List ℕ) where
   pub bound_on : {i j x n k v m l : ℕ} → Skipped text i j → Numbered text j n k v → n ≡ 0 → Expected text k x m l → Bounded text i x m l v
   bound_on {i} {j} {x} {n} {k} {v} {m} {l} s a z e =
       record {
-        later = let b = s.later in let c = a.later in let d = e.later in omega arith;
+        later = omega arith;
         further = λ y. (let b = s.later in let c = a.later in let d = e.further y in omega arith);
-        inside = e.inside;
+        inside = omega arith;
         same = λ q p is st β h w.
             to_number i j n k v s a q p is st β h
             ∙ told_ok n k _ z
@@ -190,35 +186,28 @@ module _ (text : List ℕ) where
             ∙ e.same (goal_of q v) p is st β w;
       }
 
-  -- ---- intervals
-  pub span_open : {i n j : ℕ} → Expected text i 91 n j → (n ≡ 0 → ⊥) → Spanned text i n j 0 0
-  span_open {i} {n} {j} e z = record { later = e.later; inside = e.inside; same = λ k p is st β. e.same (ToLo k) p is st β refl ∙ told_not n j _ _ z }
+  -- which byte is wanted behind a number does not depend on its value, which is nothing at a fault
+  same_want : (q : Purpose) (v : ℕ) → wanted (goal_of q v) ≡ wanted (goal_of q 0)
+  same_want Name v = refl
+  same_want Sig v = refl
+  same_want (Lo k) v = refl
+  same_want (Hi k l) v = refl
 
-  pub span_lo : {i n j m k v : ℕ} → Expected text i 91 n j → n ≡ 0 → Bounded text j 44 m k v → (m ≡ 0 → ⊥) → Spanned text i m k 0 0
-  span_lo {i} {n} {j} {m} {k} {v} e z b y =
+  pub bound_nought : {i x n j v : ℕ} → Bounded text i x n j v → (n ≡ 0 → ⊥) → Bounded text i x n j 0
+  bound_nought {i} {x} {n} {j} {v} b z =
       record {
-        later = let c = e.later in let d = b.later in omega arith;
+        later = b.later;
+        further = b.further;
         inside = b.inside;
-        same = λ o p is st β. e.same (ToLo o) p is st β refl ∙ told_ok n j _ z ∙ b.same (Lo o) p is st β refl refl ∙ told_not m k _ _ y;
-      }
-
-  pub span_hi : {i n j m k v l o w : ℕ} → Expected text i 91 n j → n ≡ 0 → Bounded text j 44 m k v → m ≡ 0 → Bounded text k 93 l o w → Spanned text i l o v w
-  span_hi {i} {n} {j} {m} {k} {v} {l} {o} {w} e z b y a =
-      record {
-        later = let c = e.later in let d = b.later in let f = a.later in omega arith;
-        inside = a.inside;
-        same = λ t p is st β. e.same (ToLo t) p is st β refl ∙ told_ok n j _ z ∙ b.same (Lo t) p is st β refl refl ∙ told_ok m k _ y ∙ a.same (Hi t v) p is st β refl refl;
+        same = λ q p is st β h w. b.same q p is st β h (same_want q v ∙ w) ∙ told_not n j _ _ z;
       }
 
   -- ---- true and false
   pub record Spells (i : ℕ) (w : List ℕ) (j k : ℕ) : Type 0 where
     pub later : i ≤ j
-    pub inside : j ≤ length text
+    pub inside : j ≤ max i (length text)
     pub within : k ≤ length w
     pub same : (v : Bool) (p : Awaited ℕ) (is : List Item) (st : Stack ℕ) (β : Tape) → from text (spelt tapes w v p is st β) i ≡ from text (spelt tapes (drop k w) v p is st β) j
-
-  pub spells_none : {i : ℕ} {w : List ℕ} → i ≤ length text → Spells i w i 0
-  spells_none {i} {w} h = record { later = omega arith; inside = h; within = omega arith; same = λ v p is st β. refl }
 
   letter : (w : List ℕ) (k : ℕ) → k < length w → drop k w ≡ get_or w k 0 ∷ drop (k + 1) w
   letter w k h = rw (add-one, drop-cons w k 0)
@@ -226,7 +215,7 @@ module _ (text : List ℕ) where
   pub spells_more : {i : ℕ} {w : List ℕ} {j k : ℕ} → Spells i w j k → k < length w → j < length text → byte_at text j ≡ get_or w k 0 → Spells i w (j + 1) (k + 1)
   spells_more {i} {w} {j} {k} s h l e =
       record {
-        later = let a = s.later in omega arith;
+        later = omega arith;
         inside = omega arith;
         within = omega arith;
         same = λ v p is st β.
@@ -245,15 +234,3 @@ module _ (text : List ℕ) where
             ∙ ap (λ (x : List ℕ). from text (spelt tapes x v p is st β) j) (letter w k h)
             ∙ from_bad text (spelt tapes (get_or w k 0 ∷ drop (k + 1) w) v p is st β) j (λ l. word_no tapes 32 p is st β (get_or w k 0) (drop (k + 1) w) v (byte_at text j) (f l));
       }
-
-  pub spells_done : {i : ℕ} {w : List ℕ} {j k : ℕ} → Spells i w j k → drop k w ≡ [] → Spelt text i w 0 j
-  spells_done {i} {w} {j} {k} s e =
-      record {
-        later = s.later;
-        inside = s.inside;
-        same = λ v p is st β. s.same v p is st β ∙ ap (λ (x : List ℕ). from text (spelt tapes x v p is st β) j) e;
-      }
-
-  -- ---- F and G
-  pub window_made : {i k n j lo hi : ℕ} {it : Item} → Spanned text i n j lo hi → it ≡ item k 0 lo hi → Windowed text i k n j true it
-  window_made {i} {k} {n} {j} v f = record { span = rw f v; some = refl; made = rw f }

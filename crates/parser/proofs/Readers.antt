@@ -1,5 +1,5 @@
 -- What each return of the five readers promises. Assumes nothing.
-use Prim.Native.Nat.{ℕ, ◌+◌, ◌-◌, ◌≤◌, ◌<◌, ◌%◌}
+use Prim.Native.Nat.{ℕ, ◌+◌, ◌-◌, ◌≤◌, ◌<◌, max}
 use native.Mathlib.Omega.{arith}
 use mathlib.Core.Path.{◌≡◌, refl, sym, ap, ◌∙◌}
 use mathlib.Core.Bool.{Bool, true, false}
@@ -11,12 +11,13 @@ use Rattle.grammar.specs.declared.Item.{Item}
 use Rattle.grammar.specs.Machine.{plain_item, const_item, item, Sig, ToLo, ToOp, Awaited, First, Chain, Right, Stack, push, depth, AwaitNumber, AwaitByte, AwaitUnary, FirstRead, ChainRead, AllRead, Config, cf, on, spelt, unary_done, atom_done, orred, puts, go, step}
 use Rattle.grammar.proofs.Runs.{pick_true}
 use Rattle.grammar.proofs.Steps.{start_not, start_signal, start_open, start_deep, start_other, start_space, alone_until, alone_release, alone_joined, alone_space, joined_and, joined_or, joined_closed, joined_space}
-use Rattle.grammar.specs.Tape.{Tape, tape, tapes, emitted, opt_of}
+use Rattle.std.proofs.Common.{Option as Maybe, Some, None}
+use Rattle.grammar.specs.Tape.{Tape, tape, tapes, emitted}
 use Rattle.parser.specs.Reads.{from, told, byte_at}
-use Rattle.parser.specs.Code.{Skipped, Numbered, Expected, Spanned, Spelt, NoPrefix, extended, Windowed, Prefixes, Between, until, release, neither, held_in, last_prefixes, SignalRead, ConstantRead, AtomRead, UnaryRead, ConjRead, DisjRead, FormulaRead}
+use Rattle.parser.specs.Code.{Skipped, Expected, Spanned, NoPrefix, extended, Windowed, Prefixes, Between, until, release, neither, held_in, last_prefixes, left_of, SignalRead, ConstantRead, AtomRead, UnaryRead, ConjRead, DisjRead, FormulaRead}
 use Rattle.parser.proofs.Laws.{from_stop, from_bad, from_like, from_spaces}
-use Rattle.parser.proofs.Leaves.{told_not, told_ok, on_byte}
-use Rattle.parser.proofs.Ring.{Holds, holds_none, holds_more, holds_applied}
+use Rattle.parser.proofs.Leaves.{told_not, told_ok, told_by, on_byte}
+use Rattle.parser.proofs.Ring.{Holds, holds_more, holds_applied}
 
 clash : (t : Bool) → t ≡ true → t ≡ false → ⊥
 clash t e f = let z : ◌≡◌ {A = ℕ} 0 1 = cc in omega arith
@@ -26,36 +27,34 @@ module _ (text : List ℕ) where
   pub prefix_not : {i j : ℕ} {it : Item} → Skipped text i j → j < length text → byte_at text j ≡ 33 → it ≡ plain_item 4 → Prefixes text i 0 (j + 1) true it
   prefix_not {i} {j} {it} s h e f =
       record {
-        later = let l = s.later in omega arith;
+        later = omega arith;
         inside = omega arith;
-        further = λ z t. (let l = s.later in omega arith);
+        further = λ z t. omega arith;
         same = λ p is st β.
             from_spaces text (cf AwaitUnary p is st β) i j (start_space tapes 32 p is st β) s
             ∙ on_byte text (cf AwaitUnary p is st β) (cf AwaitUnary p (plain_item 4 ∷ is) st β) j 33 h e (start_not tapes 32 p is st β)
             ∙ ap (λ (x : Item). from text (cf AwaitUnary p (x ∷ is) st β) (j + 1)) (sym f);
         last = λ z t. absurd (clash true refl t);
-        plain = rw f;
       }
 
   -- F and G: by the byte x of the operator k
   pub prefix_window : {i j n m k : ℕ} {more : Bool} {it : Item} (x : ℕ) → Skipped text i j → j < length text → byte_at text j ≡ x
       → ((p : Awaited ℕ) (is : List Item) (st : Stack ℕ) (β : Tape) → step tapes 32 (cf AwaitUnary p is st β) x ≡ on (cf (AwaitByte (ToLo k)) p is st β))
-      → leb k 8 ≡ true → k ≡ k % 256 → Windowed text (j + 1) k n m more it → Prefixes text i n m more it
-  prefix_window {i} {j} {n} {m} {k} {more} {it} x s h e f a b w =
+      → leb k 8 ≡ true → Windowed text (j + 1) k n m more it → Prefixes text i n m more it
+  prefix_window {i} {j} {n} {m} {k} {more} {it} x s h e f a w =
       let v = w.span in
       record {
-        later = let l = s.later in let o = v.later in omega arith;
-        inside = v.inside;
-        further = λ z t. (let l = s.later in let o = v.later in omega arith);
+        later = omega arith;
+        inside = omega arith;
+        further = λ z t. omega arith;
         same = λ p is st β.
             from_spaces text (cf AwaitUnary p is st β) i j (start_space tapes 32 p is st β) s
             ∙ on_byte text (cf AwaitUnary p is st β) (cf (AwaitByte (ToLo k)) p is st β) j x h e (f p is st β)
             ∙ v.same k p is st β
-            ∙ ap (λ (c : Config Tape ℕ). told n m (from text c m)) (to_unary p is st β)
-            ∙ ap (λ (y : Item). told n m (from text (cf AwaitUnary p (y ∷ is) st β) m)) (sym w.made)
-            ∙ ap (λ (y : Bool). told n m (from text (cf AwaitUnary p (extended y it is) st β) m)) (sym w.some);
-        last = λ z t. absurd (clash more w.some t);
-        plain = w.made ∙ ap (λ (y : ℕ). item y 0 it.lo it.hi) (b ∙ ap (λ (y : ℕ). y % 256) (sym (ap (λ (y : Item). y.kind) w.made)));
+            ∙ told_by n m _ _ (λ z. ap (λ (c : Config Tape ℕ). from text c m) (to_unary p is st β)
+            ∙ ap (λ (y : Item). from text (cf AwaitUnary p (y ∷ is) st β) m) (sym (w.made z))
+            ∙ ap (λ (y : Bool). from text (cf AwaitUnary p (extended y it is) st β) m) (sym (w.some z)));
+        last = λ z t. absurd (clash more (w.some z) t);
       }
     where
       to_unary : (p : Awaited ℕ) (is : List Item) (st : Stack ℕ) (β : Tape) → go tapes (ToOp k it.lo it.hi) p is st β ≡ cf AwaitUnary p (item k 0 it.lo it.hi ∷ is) st β
@@ -68,37 +67,15 @@ module _ (text : List ℕ) where
         inside = s.inside;
         further = λ z t. absurd (clash false t refl);
         same = λ p is st β. from_spaces text (cf AwaitUnary p is st β) i j (start_space tapes 32 p is st β) s;
-        last = λ z t. record { inside = s.inside; none = λ h. (s.next h, a h, b h, c h) };
-        plain = rw f;
+        last = λ z t. record { none = λ h. (s.next h, a h, b h, c h) };
       }
 
   -- ---- an atom
-  put_on : (α : Tape) {it jt : Item} {β : Tape} → it ≡ jt → β ≡ emitted α it (α.count - 1) → emitted α jt (α.count - 1) ≡ β
-  put_on α f g = sym (g ∙ ap (λ (x : Item). emitted α x (α.count - 1)) f)
-
-  pub signal_read : {i n j v : ℕ} {it : Item} {α β : Tape} → Numbered text i n j v → it ≡ item 1 v 0 0 → β ≡ emitted α it (α.count - 1) → SignalRead text i α n j β
-  signal_read {n = n} {j = j} {α = α} m f g =
-      record {
-        later = m.later;
-        inside = m.inside;
-        same = λ p is st.
-            m.same Sig p is st α (λ t. absurd (clash false t refl)) ∙ ap (λ (x : Tape). told n j (from text (atom_done tapes p is st x) j)) (put_on α f g);
-      }
-
-  pub constant_read : {i n j k : ℕ} {w : List ℕ} {it : Item} {α β : Tape} → Spelt text i w n j → it ≡ plain_item k → β ≡ emitted α it (α.count - 1)
-      → ConstantRead text i w k α n j β
-  constant_read {n = n} {j = j} {α = α} m f g =
-      record {
-        later = m.later;
-        inside = m.inside;
-        same = λ v e p is st. m.same v p is st α ∙ ap (λ (x : Tape). told n j (from text (atom_done tapes p is st x) j)) (put_on α (f ∙ sym e) g);
-      }
-
   pub atom_signal : {i d n j : ℕ} {α β : Tape} → i < length text → byte_at text i ≡ 115 → SignalRead text (i + 1) α n j β → AtomRead text i d α n j β
   atom_signal {i} {α = α} h e m =
       record {
-        later = let l = m.later in omega arith;
-        inside = m.inside;
+        later = omega arith;
+        inside = omega arith;
         same = λ p is st k. on_byte text (cf AwaitUnary p is st α) (cf (AwaitNumber Sig) p is st α) i 115 h e (start_signal tapes 32 p is st α) ∙ m.same p is st;
       }
 
@@ -108,8 +85,8 @@ module _ (text : List ℕ) where
       → const_item v ≡ plain_item k → ConstantRead text (i + 1) w k α n j β → AtomRead text i d α n j β
   atom_constant {i} {w = w} {α = α} x v h e f c m =
       record {
-        later = let l = m.later in omega arith;
-        inside = m.inside;
+        later = omega arith;
+        inside = omega arith;
         same = λ p is st k. on_byte text (cf AwaitUnary p is st α) (spelt tapes w v p is st α) i x h e (f p is st α) ∙ m.same v c p is st;
       }
 
@@ -131,24 +108,28 @@ module _ (text : List ℕ) where
   pub atom_open : {i d n j : ℕ} {α β : Tape} → i < length text → byte_at text i ≡ 40 → 0 < d → FormulaRead text (i + 1) (d - 1) α n j β → (n ≡ 0 → ⊥) → AtomRead text i d α n j β
   atom_open {i} {d} {n} {j} {α} {β} h e g f z =
       record {
-        later = let l = f.later in omega arith;
-        inside = f.inside;
+        later = omega arith;
+        inside = omega arith;
         same = λ p is st k. bracketed i d n j α β h e g f p is st k ∙ told_not n j _ _ z;
       }
 
   pub atom_brackets : {i d n j m l : ℕ} {α β : Tape} → i < length text → byte_at text i ≡ 40 → 0 < d → FormulaRead text (i + 1) (d - 1) α n j β → n ≡ 0 → Expected text j 41 m l → AtomRead text i d α m l β
   atom_brackets {i} {d} {n} {j} {m} {l} {α} {β} h e g f z c =
       record {
-        later = let a = f.later in let b = c.later in omega arith;
-        inside = c.inside;
+        later = omega arith;
+        inside = omega arith;
         same = λ p is st k. bracketed i d n j α β h e g f p is st k ∙ told_ok n j _ z ∙ c.closes refl p is st β;
       }
+
+  -- what is on the tape at a fault is free
+  pub atom_fault : {i d n j : ℕ} {α β γ : Tape} → AtomRead text i d α n j β → (n ≡ 0 → ⊥) → AtomRead text i d α n j γ
+  atom_fault {n = n} {j = j} a z = record { later = a.later; inside = a.inside; same = λ p is st k. a.same p is st k ∙ told_not n j _ _ z }
 
   pub atom_bad : {i d : ℕ} {α β : Tape} → NoPrefix text i → (i < length text → byte_at text i ≡ 115 → ⊥) → (i < length text → byte_at text i ≡ 116 → ⊥) → (i < length text → byte_at text i ≡ 102 → ⊥) → (i < length text → byte_at text i ≡ 40 → ⊥) → AtomRead text i d α 32 i β
   atom_bad {i} {d} {α} {β} n a b c e =
       record {
         later = omega arith;
-        inside = n.inside;
+        inside = omega arith;
         same = λ p is st k.
             from_bad text (cf AwaitUnary p is st α) i
             (λ h. let q = n.none h in start_other tapes 32 p is st α (byte_at text i) q.0 q.1 q.2 q.3 (a h) (b h) (c h) (e h));
@@ -163,15 +144,12 @@ module _ (text : List ℕ) where
   stay p is st β k it true e = absurd (clash true refl e)
   stay p is st β k it false e = refl
 
-  pub unary_fault : {i d n j : ℕ} {more : Bool} {it : Item} {α β : Tape} → Prefixes text i n j more it → (n ≡ 0 → ⊥) → UnaryRead text i d α n j β
-  unary_fault {i} {d} {n} {j} {more} {it} {α} {β} x z = record { later = x.later; inside = x.inside; same = λ p st q. x.same p [] st α ∙ told_not n j _ _ z }
-
   pub unary_plain : {i d n j m l : ℕ} {more : Bool} {it : Item} {α β : Tape} → Prefixes text i n j more it → n ≡ 0 → more ≡ false → AtomRead text j d α m l β → UnaryRead text i d α m l β
   unfolding puts
   unary_plain {i} {d} {n} {j} {m} {l} {more} {it} {α} {β} x z w a =
       record {
-        later = let b = x.later in let c = a.later in omega arith;
-        inside = a.inside;
+        later = omega arith;
+        inside = omega arith;
         same = λ p st q. x.same p [] st α ∙ told_ok n j _ z ∙ stay p [] st α j it more w ∙ a.same p [] st q ∙ puts_done p st;
       }
     where
@@ -179,43 +157,32 @@ module _ (text : List ℕ) where
       puts_done p st = refl
 
   -- the prefixes from the place i on up to j, which the ring holds
-  pub record Prefs (i j : ℕ) (ring : List ℕ) (n : ℕ) : Type 0 where
+  pub record Prefs (i j : ℕ) (ring : List Item) (n : ℕ) : Type 0 where
     pub later : i ≤ j
-    pub inside : j ≤ length text
+    pub inside : j ≤ max i (length text)
     pub few : n ≤ j - i
     pub read : List Item
     pub holds : Holds ring n read
     pub same : (p : Awaited ℕ) (st : Stack ℕ) (β : Tape) → from text (cf AwaitUnary p [] st β) i ≡ from text (cf AwaitUnary p read st β) j
 
-  pub prefs_none : {i : ℕ} {ring : List ℕ} → i ≤ length text → length ring ≡ 195 → Prefs i i ring 0
-  prefs_none {i} {ring} l h = record { later = omega arith; inside = l; few = omega arith; read = []; holds = holds_none ring h; same = λ p st β. refl }
-
-  pub prefs_more : {i j n k m : ℕ} {more : Bool} {it : Item} {ring ring' : List ℕ} → Prefs i j ring m → Prefixes text j n k more it → n ≡ 0 → more ≡ true
+  pub prefs_more : {i j n k m : ℕ} {more : Bool} {it : Item} {ring ring' : List Item} → Prefs i j ring m → Prefixes text j n k more it → n ≡ 0 → more ≡ true
       → ring' ≡ held_in ring m it → Prefs i k ring' (m + 1)
   prefs_more {i} {j} {n} {k} {m} {more} {it} {ring} {ring'} f x z w e =
       record {
-        later = let a = f.later in let b = x.later in omega arith;
-        inside = x.inside;
+        later = omega arith;
+        inside = omega arith;
         few = let a = f.later in let b = x.further z w in let c = f.few in omega arith;
         read = it ∷ f.read;
-        holds = rw e (holds_more ring m f.read it f.holds x.plain);
+        holds = rw e (holds_more ring m f.read it f.holds);
         same = λ p st β. f.same p st β ∙ x.same p f.read st β ∙ told_ok n k _ z ∙ stretch p f.read st β k it more w;
       }
 
-  pub prefixed_bad : {i j d n k m : ℕ} {more : Bool} {it : Item} {ring : List ℕ} {α β : Tape} → Prefs i j ring m → Prefixes text j n k more it → (n ≡ 0 → ⊥) → UnaryRead text i d α n k β
-  prefixed_bad {i} {j} {d} {n} {k} {m} {more} {it} {ring} {α} {β} f g z =
-      record {
-        later = let a = f.later in let b = g.later in omega arith;
-        inside = g.inside;
-        same = λ p st q. f.same p st α ∙ g.same p f.read st α ∙ told_not n k _ _ z;
-      }
-
-  pub prefixed_atom : {i j d n k m l o : ℕ} {more : Bool} {it : Item} {ring : List ℕ} {α γ β : Tape} → Prefs i j ring o → Prefixes text j n k more it → n ≡ 0 → more ≡ false
+  pub prefixed_atom : {i j d n k m l o : ℕ} {more : Bool} {it : Item} {ring : List Item} {α γ β : Tape} → Prefs i j ring o → Prefixes text j n k more it → n ≡ 0 → more ≡ false
       → AtomRead text k d α m l γ → β ≡ puts tapes γ (last_prefixes ring o) → UnaryRead text i d α m l β
   prefixed_atom {i} {j} {d} {n} {k} {m} {l} {o} {more} {it} {ring} {α} {γ} {β} f x z w a e =
       record {
-        later = let b = f.later in let c = x.later in let g = a.later in omega arith;
-        inside = a.inside;
+        later = omega arith;
+        inside = omega arith;
         same = λ p st q.
             f.same p st α ∙ x.same p f.read st α ∙ told_ok n k _ z ∙ stay p f.read st α k it more w
             ∙ a.same p f.read st q
@@ -225,11 +192,8 @@ module _ (text : List ℕ) where
   -- ---- a conjunction
   pub record Conjs (d i : ℕ) (α : Tape) (j : ℕ) (β : Tape) : Type 0 where
     pub later : i ≤ j
-    pub inside : j ≤ length text
+    pub inside : j ≤ max i (length text)
     pub same : (o : Option ℕ) (st : Stack ℕ) → depth st + d ≡ 32 → from text (cf (ChainRead o) First [] st α) i ≡ from text (cf (ChainRead o) First [] st β) j
-
-  pub conjs_none : {d i : ℕ} {α : Tape} → i ≤ length text → Conjs d i α i α
-  conjs_none {d} {i} {α} h = record { later = omega arith; inside = h; same = λ o st k. refl }
 
   -- & and a unary
   and_read : (d i j s n k : ℕ) (α β γ : Tape) → Conjs d i α j β → Skipped text j s → s < length text → byte_at text s ≡ 38 → UnaryRead text (s + 1) d β n k γ → (o : Option ℕ) (st : Stack ℕ) → depth st + d ≡ 32
@@ -244,16 +208,16 @@ module _ (text : List ℕ) where
   pub conjs_more : {d i j s n k : ℕ} {α β γ δ : Tape} → Conjs d i α j β → Skipped text j s → s < length text → byte_at text s ≡ 38 → UnaryRead text (s + 1) d β n k γ → n ≡ 0 → δ ≡ emitted γ (plain_item 5) (β.count - 1) → Conjs d i α k δ
   conjs_more {d} {i} {j} {s} {n} {k} {α} {β} {γ} {δ} f g h e u z t =
       record {
-        later = let a = f.later in let b = g.later in let c = u.later in omega arith;
-        inside = u.inside;
+        later = omega arith;
+        inside = omega arith;
         same = λ o st q. and_read d i j s n k α β γ f g h e u o st q ∙ told_ok n k _ z ∙ ap (λ (x : Tape). from text (cf (ChainRead o) First [] st x) k) (sym t);
       }
 
   pub conj_bad : {d i j s n k : ℕ} {α β γ : Tape} → Conjs d i α j β → Skipped text j s → s < length text → byte_at text s ≡ 38 → UnaryRead text (s + 1) d β n k γ → (n ≡ 0 → ⊥) → ConjRead text i d α n k γ
   conj_bad {d} {i} {j} {s} {n} {k} {α} {β} {γ} f g h e u z =
       record {
-        later = let a = f.later in let b = g.later in let c = u.later in omega arith;
-        inside = u.inside;
+        later = omega arith;
+        inside = omega arith;
         same = λ o st q. and_read d i j s n k α β γ f g h e u o st q ∙ told_not n k _ _ z;
         last = λ y. absurd (z y);
       }
@@ -261,133 +225,119 @@ module _ (text : List ℕ) where
   pub conj_done : {d i j s : ℕ} {α β : Tape} → Conjs d i α j β → Skipped text j s → (s < length text → byte_at text s ≡ 38 → ⊥) → ConjRead text i d α 0 s β
   conj_done {d} {i} {j} {s} {α} {β} f g a =
       record {
-        later = let b = f.later in let c = g.later in omega arith;
-        inside = g.inside;
+        later = omega arith;
+        inside = omega arith;
         same = λ o st q. f.same o st q ∙ from_spaces text (cf (ChainRead o) First [] st β) j s (joined_space tapes 32 o st β) g;
         last = λ y h. (g.next h, a h);
       }
 
   -- ---- a disjunction
-  pub record Disjs (d i : ℕ) (α : Tape) (j : ℕ) (β : Tape) (some : Bool) (left : ℕ) : Type 0 where
+  pub record Disjs (d i : ℕ) (α : Tape) (j : ℕ) (β : Tape) (left : Maybe ℕ) : Type 0 where
     pub later : i ≤ j
-    pub inside : j ≤ length text
-    pub same : (st : Stack ℕ) → depth st + d ≡ 32 → from text (cf (ChainRead none) First [] st α) i ≡ from text (cf (ChainRead (opt_of some left)) First [] st β) j
+    pub inside : j ≤ max i (length text)
+    pub same : (st : Stack ℕ) → depth st + d ≡ 32 → from text (cf (ChainRead none) First [] st α) i ≡ from text (cf (ChainRead (left_of left)) First [] st β) j
 
-  pub disjs_none : {d i : ℕ} {α : Tape} → i ≤ length text → Disjs d i α i α false 0
-  disjs_none {d} {i} {α} h = record { later = omega arith; inside = h; same = λ st k. refl }
-
-  pub disj_bad : {d i j n k : ℕ} {α β γ : Tape} {t : Bool} {l : ℕ} → Disjs d i α j β t l → ConjRead text j d β n k γ → (n ≡ 0 → ⊥) → DisjRead text i d α n k γ
-  disj_bad {d} {i} {j} {n} {k} {α} {β} {γ} {t} {l} f c z =
+  pub disj_done : {d i j n k : ℕ} {α β γ δ : Tape} {t : Maybe ℕ} → Disjs d i α j β t → ConjRead text j d β n k γ → n ≡ 0 → (k < length text → byte_at text k ≡ 124 → ⊥) → δ ≡ orred tapes (left_of t) γ → DisjRead text i d α 0 k δ
+  disj_done {d} {i} {j} {n} {k} {α} {β} {γ} {δ} {t} f c z a e =
       record {
-        later = let a = f.later in let b = c.later in omega arith;
-        inside = c.inside;
-        same = λ st q. f.same st q ∙ c.same (opt_of t l) st q ∙ told_not n k _ _ z;
-      }
-
-  pub disj_done : {d i j n k : ℕ} {α β γ δ : Tape} {t : Bool} {l : ℕ} → Disjs d i α j β t l → ConjRead text j d β n k γ → n ≡ 0 → (k < length text → byte_at text k ≡ 124 → ⊥) → δ ≡ orred tapes (opt_of t l) γ → DisjRead text i d α 0 k δ
-  disj_done {d} {i} {j} {n} {k} {α} {β} {γ} {δ} {t} {l} f c z a e =
-      record {
-        later = let b = f.later in let e = c.later in omega arith;
-        inside = c.inside;
+        later = omega arith;
+        inside = omega arith;
         same = λ st q.
-            f.same st q ∙ c.same (opt_of t l) st q ∙ told_ok n k _ z
-            ∙ from_like text (cf (ChainRead (opt_of t l)) First [] st γ) (cf AllRead First [] st (orred tapes (opt_of t l) γ)) k
-            (λ h. joined_closed tapes 32 st γ (opt_of t l) (byte_at text k) (c.last z h).0 (c.last z h).1 (a h))
+            f.same st q ∙ c.same (left_of t) st q ∙ told_ok n k _ z
+            ∙ from_like text (cf (ChainRead (left_of t)) First [] st γ) (cf AllRead First [] st (orred tapes (left_of t) γ)) k
+            (λ h. joined_closed tapes 32 st γ (left_of t) (byte_at text k) (c.last z h).0 (c.last z h).1 (a h))
             ∙ ap (λ (x : Tape). from text (cf AllRead First [] st x) k) (sym e);
       }
 
   -- | and a unary
-  or_read : (d i j n k m e : ℕ) (α β γ δ ε : Tape) (t : Bool) (l : ℕ) → Disjs d i α j β t l → ConjRead text j d β n k γ → n ≡ 0 → k < length text → byte_at text k ≡ 124 → δ ≡ orred tapes (opt_of t l) γ
+  or_read : (d i j n k m e : ℕ) (α β γ δ ε : Tape) (t : Maybe ℕ) → Disjs d i α j β t → ConjRead text j d β n k γ → n ≡ 0 → k < length text → byte_at text k ≡ 124 → δ ≡ orred tapes (left_of t) γ
       → UnaryRead text (k + 1) d δ m e ε → (st : Stack ℕ) → depth st + d ≡ 32
       → from text (cf (ChainRead none) First [] st α) i ≡ told m e (from text (cf (ChainRead (some (δ.count - 1))) First [] st ε) e)
   unfolding unary_done
-  or_read d i j n k m e α β γ δ ε t l f c z h b g u st q =
-      f.same st q ∙ c.same (opt_of t l) st q ∙ told_ok n k _ z
-      ∙ on_byte text (cf (ChainRead (opt_of t l)) First [] st γ) (cf AwaitUnary (Chain (some ((orred tapes (opt_of t l) γ).count - 1)) none) [] st (orred tapes (opt_of t l) γ)) k 124 h b (joined_or tapes 32 st γ (opt_of t l))
+  or_read d i j n k m e α β γ δ ε t f c z h b g u st q =
+      f.same st q ∙ c.same (left_of t) st q ∙ told_ok n k _ z
+      ∙ on_byte text (cf (ChainRead (left_of t)) First [] st γ) (cf AwaitUnary (Chain (some ((orred tapes (left_of t) γ).count - 1)) none) [] st (orred tapes (left_of t) γ)) k 124 h b (joined_or tapes 32 st γ (left_of t))
       ∙ ap (λ (x : Tape). from text (cf AwaitUnary (Chain (some (x.count - 1)) none) [] st x) (k + 1)) (sym g)
       ∙ u.same (Chain (some (δ.count - 1)) none) st q
 
-  pub disj_or_bad : {d i j n k m e : ℕ} {α β γ δ ε : Tape} {t : Bool} {l : ℕ} → Disjs d i α j β t l → ConjRead text j d β n k γ → n ≡ 0 → k < length text → byte_at text k ≡ 124 → δ ≡ orred tapes (opt_of t l) γ
+  pub disj_or_bad : {d i j n k m e : ℕ} {α β γ δ ε : Tape} {t : Maybe ℕ} → Disjs d i α j β t → ConjRead text j d β n k γ → n ≡ 0 → k < length text → byte_at text k ≡ 124 → δ ≡ orred tapes (left_of t) γ
       → UnaryRead text (k + 1) d δ m e ε → (m ≡ 0 → ⊥) → DisjRead text i d α m e ε
-  disj_or_bad {d} {i} {j} {n} {k} {m} {e} {α} {β} {γ} {δ} {ε} {t} {l} f c z h b g u y =
+  disj_or_bad {d} {i} {j} {n} {k} {m} {e} {α} {β} {γ} {δ} {ε} {t} f c z h b g u y =
       record {
-        later = let a = f.later in let o = c.later in let r = u.later in omega arith;
-        inside = u.inside;
-        same = λ st q. or_read d i j n k m e α β γ δ ε t l f c z h b g u st q ∙ told_not m e _ _ y;
+        later = omega arith;
+        inside = omega arith;
+        same = λ st q. or_read d i j n k m e α β γ δ ε t f c z h b g u st q ∙ told_not m e _ _ y;
       }
 
-  pub disjs_more : {d i j n k m e : ℕ} {α β γ δ ε : Tape} {t : Bool} {l r : ℕ} → Disjs d i α j β t l → ConjRead text j d β n k γ → n ≡ 0 → k < length text → byte_at text k ≡ 124 → δ ≡ orred tapes (opt_of t l) γ
-      → UnaryRead text (k + 1) d δ m e ε → m ≡ 0 → r ≡ δ.count - 1 → Disjs d i α e ε true r
-  disjs_more {d} {i} {j} {n} {k} {m} {e} {α} {β} {γ} {δ} {ε} {t} {l} {r} f c z h b g u y w =
+  pub disjs_more : {d i j n k m e : ℕ} {α β γ δ ε : Tape} {t : Maybe ℕ} {r : ℕ} → Disjs d i α j β t → ConjRead text j d β n k γ → n ≡ 0 → k < length text → byte_at text k ≡ 124 → δ ≡ orred tapes (left_of t) γ
+      → UnaryRead text (k + 1) d δ m e ε → m ≡ 0 → r ≡ δ.count - 1 → Disjs d i α e ε (Some r)
+  disjs_more {d} {i} {j} {n} {k} {m} {e} {α} {β} {γ} {δ} {ε} {t} {r} f c z h b g u y w =
       record {
-        later = let a = f.later in let o = c.later in let v = u.later in omega arith;
-        inside = u.inside;
-        same = λ st q. or_read d i j n k m e α β γ δ ε t l f c z h b g u st q ∙ told_ok m e _ y ∙ ap (λ (x : ℕ). from text (cf (ChainRead (some x)) First [] st ε) e) (sym w);
+        later = omega arith;
+        inside = omega arith;
+        same = λ st q. or_read d i j n k m e α β γ δ ε t f c z h b g u st q ∙ told_ok m e _ y ∙ ap (λ (x : ℕ). from text (cf (ChainRead (some x)) First [] st ε) e) (sym w);
       }
 
   -- ---- a formula
-  pub formula_bad : {i d n j : ℕ} {α β : Tape} → UnaryRead text i d α n j β → (n ≡ 0 → ⊥) → FormulaRead text i d α n j β
-  formula_bad {i} {d} {n} {j} {α} {β} u z = record { later = u.later; inside = u.inside; same = λ st q. u.same First st q ∙ told_not n j _ _ z }
+  pub formula_fault : {i d n j : ℕ} {α β γ : Tape} → FormulaRead text i d α n j β → (n ≡ 0 → ⊥) → FormulaRead text i d α n j γ
+  formula_fault {n = n} {j = j} f z = record { later = f.later; inside = f.inside; same = λ st q. f.same st q ∙ told_not n j _ _ z }
 
   first_read : (i d n j s : ℕ) (α β : Tape) → UnaryRead text i d α n j β → n ≡ 0 → Skipped text j s → (st : Stack ℕ) → depth st + d ≡ 32 → from text (cf AwaitUnary First [] st α) i ≡ from text (cf FirstRead First [] st β) s
   unfolding unary_done
   first_read i d n j s α β u z g st q =
       u.same First st q ∙ told_ok n j _ z ∙ from_spaces text (cf FirstRead First [] st β) j s (alone_space tapes 32 st β) g
 
+  -- an operator is a byte of the text
+  between_inside : (s k : ℕ) → Between text s (Some k) → s < length text
+  between_inside s k (until h b) = h
+  between_inside s k (release h b) = h
+
   -- the operator k and its interval
-  timed_read : (i d n j s k m e lo hi : ℕ) (α β : Tape) → UnaryRead text i d α n j β → n ≡ 0 → Skipped text j s → Between text s k → (k ≡ 0 → ⊥) → Spanned text (s + 1) m e lo hi → (st : Stack ℕ) → depth st + d ≡ 32
+  timed_read : (i d n j s k m e lo hi : ℕ) (α β : Tape) → UnaryRead text i d α n j β → n ≡ 0 → Skipped text j s → Between text s (Some k) → Spanned text (s + 1) m e lo hi → (st : Stack ℕ) → depth st + d ≡ 32
       → from text (cf AwaitUnary First [] st α) i ≡ told m e (from text (cf AwaitUnary (Right (item k 0 lo hi) (β.count - 1)) [] st β) e)
-  timed_read i d n j s k m e lo hi α β u z g (until h b) y v st q =
+  timed_read i d n j s k m e lo hi α β u z g (until h b) v st q =
       first_read i d n j s α β u z g st q
       ∙ on_byte text (cf FirstRead First [] st β) (cf (AwaitByte (ToLo 9)) First [] st β) s 85 h b (alone_until tapes 32 st β)
       ∙ v.same 9 First [] st β
-  timed_read i d n j s k m e lo hi α β u z g (release h b) y v st q =
+  timed_read i d n j s k m e lo hi α β u z g (release h b) v st q =
       first_read i d n j s α β u z g st q
       ∙ on_byte text (cf FirstRead First [] st β) (cf (AwaitByte (ToLo 10)) First [] st β) s 82 h b (alone_release tapes 32 st β)
       ∙ v.same 10 First [] st β
-  timed_read i d n j s k m e lo hi α β u z g (neither a b) y v st q = absurd (y refl)
 
-  pub formula_span : {i d n j s k m e lo hi : ℕ} {α β γ : Tape} → UnaryRead text i d α n j β → n ≡ 0 → Skipped text j s → Between text s k → (k ≡ 0 → ⊥) → Spanned text (s + 1) m e lo hi → (m ≡ 0 → ⊥) → FormulaRead text i d α m e γ
-  formula_span {i} {d} {n} {j} {s} {k} {m} {e} {lo} {hi} {α} {β} {γ} u z g b y v x =
+  pub formula_span : {i d n j s k m e lo hi : ℕ} {α β γ : Tape} → UnaryRead text i d α n j β → n ≡ 0 → Skipped text j s → Between text s (Some k) → Spanned text (s + 1) m e lo hi → (m ≡ 0 → ⊥) → FormulaRead text i d α m e γ
+  formula_span {i} {d} {n} {j} {s} {k} {m} {e} {lo} {hi} {α} {β} {γ} u z g b v x =
       record {
-        later = let a = u.later in let c = g.later in let f = v.later in omega arith;
-        inside = v.inside;
-        same = λ st q. timed_read i d n j s k m e lo hi α β u z g b y v st q ∙ told_not m e _ _ x;
+        later = omega arith;
+        inside = let h = between_inside s k b in omega arith;
+        same = λ st q. timed_read i d n j s k m e lo hi α β u z g b v st q ∙ told_not m e _ _ x;
       }
 
-  pub formula_right : {i d n j s k m e lo hi a f : ℕ} {α β γ δ : Tape} → UnaryRead text i d α n j β → n ≡ 0 → Skipped text j s → Between text s k → (k ≡ 0 → ⊥) → Spanned text (s + 1) m e lo hi → m ≡ 0 → UnaryRead text e d β a f γ
+  pub formula_right : {i d n j s k m e lo hi a f : ℕ} {α β γ δ : Tape} → UnaryRead text i d α n j β → n ≡ 0 → Skipped text j s → Between text s (Some k) → Spanned text (s + 1) m e lo hi → m ≡ 0 → UnaryRead text e d β a f γ
       → δ ≡ emitted γ (item k 0 lo hi) (β.count - 1) → FormulaRead text i d α a f δ
   unfolding unary_done
-  formula_right {i} {d} {n} {j} {s} {k} {m} {e} {lo} {hi} {a} {f} {α} {β} {γ} {δ} u z g b y v x w t =
+  formula_right {i} {d} {n} {j} {s} {k} {m} {e} {lo} {hi} {a} {f} {α} {β} {γ} {δ} u z g b v x w t =
       record {
-        later = let l = u.later in let c = g.later in let o = v.later in let r = w.later in omega arith;
-        inside = w.inside;
+        later = omega arith;
+        inside = let h = between_inside s k b in omega arith;
         same = λ st q.
-            timed_read i d n j s k m e lo hi α β u z g b y v st q ∙ told_ok m e _ x ∙ w.same (Right (item k 0 lo hi) (β.count - 1)) st q
+            timed_read i d n j s k m e lo hi α β u z g b v st q ∙ told_ok m e _ x ∙ w.same (Right (item k 0 lo hi) (β.count - 1)) st q
             ∙ ap (λ (t : Tape). told a f (from text (cf AllRead First [] st t) f)) (sym t);
       }
 
-  between_none : (s k : ℕ) → Between text s k → k ≡ 0 → (s < length text → byte_at text s ≡ 85 → ⊥) × (s < length text → byte_at text s ≡ 82 → ⊥)
-  between_none s k (until h b) y = absurd (omega arith)
-  between_none s k (release h b) y = absurd (omega arith)
-  between_none s k (neither a b) y = (a, b)
+  between_none : (s : ℕ) → Between text s None → (s < length text → byte_at text s ≡ 85 → ⊥) × (s < length text → byte_at text s ≡ 82 → ⊥)
+  between_none s (neither a b) = (a, b)
 
-  pub formula_chain : {i d n j s k m e : ℕ} {α β γ : Tape} → UnaryRead text i d α n j β → n ≡ 0 → Skipped text j s → Between text s k → k ≡ 0 → DisjRead text s d β m e γ → FormulaRead text i d α m e γ
-  formula_chain {i} {d} {n} {j} {s} {k} {m} {e} {α} {β} {γ} u z g b y r =
-      let o = between_none s k b y in
+  pub formula_chain : {i d n j s m e : ℕ} {α β γ : Tape} → UnaryRead text i d α n j β → n ≡ 0 → Skipped text j s → Between text s None → DisjRead text s d β m e γ → FormulaRead text i d α m e γ
+  formula_chain {i} {d} {n} {j} {s} {m} {e} {α} {β} {γ} u z g b r =
+      let o = between_none s b in
       record {
-        later = let l = u.later in let c = g.later in let f = r.later in omega arith;
-        inside = r.inside;
+        later = omega arith;
+        inside = omega arith;
         same = λ st q.
             first_read i d n j s α β u z g st q
             ∙ from_like text (cf FirstRead First [] st β) (cf (ChainRead none) First [] st β) s (λ h. alone_joined tapes 32 st β (byte_at text s) (g.next h) (o.0 h) (o.1 h))
             ∙ r.same st q;
       }
-
-  pub between_inside : {s k : ℕ} → Between text s k → (k ≡ 0 → ⊥) → s < length text
-  between_inside {s} {k} (until h b) y = h
-  between_inside {s} {k} (release h b) y = h
-  between_inside {s} {k} (neither a b) y = absurd (y refl)
 
   -- the cells at a loop's head are those at its start
   pub unary_from : {i d n k j : ℕ} {b c : List ℕ} {β : Tape} → b ≡ c → UnaryRead text i d (tape b n) k j β → UnaryRead text i d (tape c n) k j β

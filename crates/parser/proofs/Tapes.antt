@@ -2,18 +2,17 @@
 use Prim.Native.Nat.{ℕ, ◌+◌, ◌*◌, ◌-◌, ◌≤◌, ◌<◌, min}
 use native.Mathlib.Omega.{arith}
 use mathlib.Core.Path.{◌≡◌, refl, sym, ap, ap₂, ◌∙◌}
-use mathlib.Core.Bool.{Bool, true, false}
 use mathlib.Core.List.{List, [], ◌∷◌, ◌++◌}
 use lib.Dec.{ltb}
-use lib.ListN.{length, take, drop, set, take-append-drop}
-use lib.Seq.{lt-length-set, take_all, length-take-le}
+use lib.ListN.{length, take, drop, take-append-drop}
+use lib.Seq.{take_all, length-take-le}
 use borrow.Author.Tests.{lt-ltb, le-ltb}
 use Rattle.lists.proofs.Tests.{lt_or_le}
 use mathlib.Core.Logic.{⊎_elim}
 use Rattle.grammar.specs.declared.Item.{Item}
-use Rattle.grammar.specs.Machine.{plain_item, puts, orred}
+use Rattle.grammar.specs.Machine.{puts}
 use Rattle.grammar.proofs.Runs.{pick_true, pick_false}
-use Rattle.grammar.specs.Tape.{Tape, tape, with_cells, emitted, tapes, opt_of}
+use Rattle.grammar.specs.Tape.{Tape, tape, with_cells, emitted, tapes}
 
 -- ---- one more node
 pub emit_room : (c : List ℕ) (n : ℕ) (it : Item) (l : ℕ) → n < 65 → tape (with_cells c (5 * n) it l) (n + 1) ≡ emitted (tape c n) it l
@@ -26,14 +25,6 @@ emit_full s it l h = sym (pick_false (ltb s.count 65) _ _ (le-ltb s.count 65 h))
 
 pub emit_by : (x s : Tape) (it jt : Item) (m k : ℕ) → x ≡ emitted s it m → it ≡ jt → m ≡ k → x ≡ emitted s jt k
 emit_by x s it jt m k e f g = e ∙ ap₂ (λ (i : Item) (l : ℕ). emitted s i l) f g
-
-pub or_yes : (x s : Tape) (it : Item) (t : Bool) (l : ℕ) → x ≡ emitted s it l → it ≡ plain_item 6 → t ≡ true → x ≡ orred tapes (opt_of t l) s
-or_yes x s it true l e f g = e ∙ ap (λ (i : Item). emitted s i l) f
-or_yes x s it false l e f g = absurd (let z : ◌≡◌ {A = ℕ} 0 1 = cc in omega arith)
-
-pub or_no : (s : Tape) (t : Bool) (l : ℕ) → t ≡ false → s ≡ orred tapes (opt_of t l) s
-or_no s true l g = absurd (let z : ◌≡◌ {A = ℕ} 0 1 = cc in omega arith)
-or_no s false l g = refl
 
 -- ---- several nodes
 pub puts_append : (s : Tape) (xs ys : List Item) → puts tapes s (xs ++ ys) ≡ puts tapes (puts tapes s xs) ys
@@ -80,18 +71,3 @@ puts_first s is = ⊎_elim long short (lt_or_le 64 (length is))
 
     short : length is ≤ 64 → puts tapes s (take 65 is) ≡ puts tapes s is
     short h = ap (λ (l : List Item). puts tapes s l) (take_all 65 is (omega arith))
-
--- the five cells of a node
-pub cell_2 : (c : List ℕ) (n a : ℕ) → n < 65 → 325 ≤ length c → 5 * n + 1 < length (set c (5 * n) a)
-cell_2 c n a h l = lt-length-set c (5 * n) a (omega arith)
-
-pub cell_3 : (c : List ℕ) (n a b : ℕ) → n < 65 → 325 ≤ length c → 5 * n + 2 < length (set (set c (5 * n) a) (5 * n + 1) b)
-cell_3 c n a b h l = lt-length-set (set c (5 * n) a) (5 * n + 1) b (lt-length-set c (5 * n) a (omega arith))
-
-pub cell_4 : (c : List ℕ) (n a b d : ℕ) → n < 65 → 325 ≤ length c → 5 * n + 3 < length (set (set (set c (5 * n) a) (5 * n + 1) b) (5 * n + 2) d)
-cell_4 c n a b d h l = lt-length-set (set (set c (5 * n) a) (5 * n + 1) b) (5 * n + 2) d (lt-length-set (set c (5 * n) a) (5 * n + 1) b (lt-length-set c (5 * n) a (omega arith)))
-
-pub cell_5 : (c : List ℕ) (n a b d e : ℕ) → n < 65 → 325 ≤ length c → 5 * n + 4 < length (set (set (set (set c (5 * n) a) (5 * n + 1) b) (5 * n + 2) d) (5 * n + 3) e)
-cell_5 c n a b d e h l =
-    lt-length-set (set (set (set c (5 * n) a) (5 * n + 1) b) (5 * n + 2) d) (5 * n + 3) e
-    (lt-length-set (set (set c (5 * n) a) (5 * n + 1) b) (5 * n + 2) d (lt-length-set (set c (5 * n) a) (5 * n + 1) b (lt-length-set c (5 * n) a (omega arith))))

@@ -1,72 +1,36 @@
 // The parts of a typed line that hold no formula: spaces, numbers, intervals, words, prefixes. Each reader begins at a place of the text and
 // answers the place behind what it read, or the number of a fault and its place.
-ghost use Rattle.std.specs.Prelude.{◌≡◌, ◌-◌, ◌≤◌, length, true};
+ghost use Rattle.std.specs.Prelude.{◌≡◌, ◌-◌, true};
 ghost use Rattle.grammar.specs.Grammar.{is_digit};
 ghost use Rattle.grammar.specs.Images.{sat};
-ghost use Rattle.parser.specs.Code.{IsAt, DigitAt, Skipped, Grown, Numbered, Expected, Bounded, Spanned, Spelt, Windowed, Prefixes, Between};
+ghost use Rattle.std.specs.Option.{option_map};
+ghost use Rattle.table.specs.Operators.{kind_of};
+ghost use Rattle.parser.specs.Reads.{number_of};
+ghost use Rattle.parser.specs.Code.{IsAt, DigitAt, Skipped, Grown, Numbered, Expected, Bounded, Spanned, Spelt, Windowed, Prefixes, Between, place_of, end_of, value_of, lo_of, hi_of, more_of, item_of};
 
+use crate::Fault;
 use grammar::Item;
-
-// A place of the text, or the number of a fault and its place.
-#[derive(Clone, Copy)]
-pub struct Place {
-    pub number: u8,
-    pub at: usize,
-}
-
-// The same with a number that was read.
-#[derive(Clone, Copy)]
-pub struct Num {
-    pub number: u8,
-    pub at: usize,
-    pub value: u32,
-}
-
-// The same with an interval.
-#[derive(Clone, Copy)]
-pub struct Span {
-    pub number: u8,
-    pub at: usize,
-    pub lo: u32,
-    pub hi: u32,
-}
-
-// The same, whether a prefix was read, and which.
-#[derive(Clone, Copy)]
-pub struct Before {
-    pub number: u8,
-    pub at: usize,
-    pub more: bool,
-    pub item: Item,
-}
+use table::Operator;
 
 // The byte at a place is x.
 pub(crate) fn is_at(text: &[u8], at: usize, x: u8) -> bool
     ensures { IsAt text.now at x result }
 {
-    if at < text.len() {
-        text[at] == x
-    } else {
-        false
-    }
+    text.get(at) == Some(&x)
 }
 
 fn digit_at(text: &[u8], at: usize) -> bool
     ensures { DigitAt text.now at result }
 {
-    if at < text.len() {
-        let x = text[at];
-        return (b'0' <= x) & (x <= b'9');
-    }
-    false
+    text.get(at).is_some_and(|x| x.is_ascii_digit())
 }
 
 // Past the spaces.
 pub(crate) fn skip(text: &[u8], at: usize) -> usize
-    requires { at ≤ length text.now }
     ensures { Skipped text.now at result }
 {
     let mut i = at;
+    // The place behind the spaces is the answer.
     while is_at(text, i, b' ') {
         i += 1;
     }
@@ -74,196 +38,120 @@ pub(crate) fn skip(text: &[u8], at: usize) -> usize
 }
 
 // One more digit of a number.
+#[tactic(auto, unfolding(grammar::specs::Images::sat))]
 fn grow(value: u32, x: u8) -> u32
     requires { is_digit x ≡ true }
     ensures { result ≡ sat value (x - 48) }
 {
-    if value < 100000 {
-        return 10 * value + (x as u32 - 48);
-    }
-    1000000
+    let digit = u32::from(x - b'0');
+    value.saturating_mul(10).saturating_add(digit).min(1000000)
 }
 
 // The digits that follow a number.
-fn digits(text: &[u8], at: usize, value: u32) -> Num
-    requires { at ≤ length text.now }
-    ensures { Grown text.now at value result.at result.value × (result.number ≡ 0) }
+fn digits(text: &[u8], at: usize, value: u32) -> (u32, usize)
+    ensures { Grown text.now at value result.1 result.0 }
 {
     let mut i = at;
     let mut v = value;
+    // The place behind the digits is part of the answer.
     while digit_at(text, i) {
         v = grow(v, text[i]);
         i += 1;
     }
-    Num {
-        number: 0,
-        at: i,
-        value: v,
-    }
+    (v, i)
 }
 
-pub(crate) fn number(text: &[u8], at: usize) -> Num
-    requires { at ≤ length text.now }
-    ensures { Numbered text.now at result.number result.at result.value }
+pub(crate) fn number(text: &[u8], at: usize) -> Result<(u32, usize), Fault>
+    ensures { Numbered text.now at (number_of result) (place_of result) (value_of result) }
 {
     if !digit_at(text, at) {
-        return Num {
-            number: refusals::SYNTAX,
-            at,
-            value: 0,
-        };
+        return Err(Fault::syntax(at));
     }
-    let first = text[at] - 48;
+    let first = text[at] - b'0';
     if first == 0 {
-        return Num {
-            number: 0,
-            at: at + 1,
-            value: 0,
-        };
+        return Ok((0, at + 1));
     }
-    digits(text, at + 1, first as u32)
+    Ok(digits(text, at + 1, u32::from(first)))
 }
 
 // Past spaces and the byte x.
-pub(crate) fn expect(text: &[u8], at: usize, x: u8) -> Place
-    requires { at ≤ length text.now }
-    ensures { Expected text.now at x result.number result.at }
+pub(crate) fn expect(text: &[u8], at: usize, x: u8) -> Result<usize, Fault>
+    ensures { Expected text.now at x (number_of result) (end_of result) }
 {
     let i = skip(text, at);
-    if is_at(text, i, x) {
-        return Place {
-            number: 0,
-            at: i + 1,
-        };
+    if !is_at(text, i, x) {
+        return Err(Fault::syntax(i));
     }
-    Place {
-        number: refusals::SYNTAX,
-        at: i,
-    }
+    Ok(i + 1)
 }
 
 // A number over spaces, and the byte x behind it.
-pub(crate) fn bound(text: &[u8], at: usize, x: u8) -> Num
-    requires { at ≤ length text.now }
-    ensures { Bounded text.now at x result.number result.at result.value }
+pub(crate) fn bound(text: &[u8], at: usize, x: u8) -> Result<(u32, usize), Fault>
+    ensures { Bounded text.now at x (number_of result) (place_of result) (value_of result) }
 {
-    let n = number(text, skip(text, at));
-    if n.number != 0 {
-        return n;
-    }
-    let e = expect(text, n.at, x);
-    Num {
-        number: e.number,
-        at: e.at,
-        value: n.value,
-    }
+    let (value, i) = number(text, skip(text, at))?;
+    let end = expect(text, i, x)?;
+    Ok((value, end))
 }
 
-pub(crate) fn interval(text: &[u8], at: usize) -> Span
-    requires { at ≤ length text.now }
-    ensures { Spanned text.now at result.number result.at result.lo result.hi }
+// The bounds of an interval.
+pub(crate) fn interval(text: &[u8], at: usize) -> Result<((u32, u32), usize), Fault>
+    ensures { Spanned text.now at (number_of result) (place_of result) (lo_of result) (hi_of result) }
 {
-    let e = expect(text, at, b'[');
-    if e.number != 0 {
-        return Span {
-            number: e.number,
-            at: e.at,
-            lo: 0,
-            hi: 0,
-        };
-    }
-    let a = bound(text, e.at, b',');
-    if a.number != 0 {
-        return Span {
-            number: a.number,
-            at: a.at,
-            lo: 0,
-            hi: 0,
-        };
-    }
-    let b = bound(text, a.at, b']');
-    Span {
-        number: b.number,
-        at: b.at,
-        lo: a.value,
-        hi: b.value,
-    }
+    let i = expect(text, at, b'[')?;
+    let (lo, j) = bound(text, i, b',')?;
+    let (hi, end) = bound(text, j, b']')?;
+    Ok(((lo, hi), end))
 }
 
 // The letters of w.
-pub(crate) fn spell(text: &[u8], at: usize, w: &[u8]) -> Place
-    requires { at ≤ length text.now }
-    ensures { Spelt text.now at w.now result.number result.at }
+pub(crate) fn spell(text: &[u8], at: usize, w: &[u8]) -> Result<usize, Fault>
+    ensures { Spelt text.now at w.now (number_of result) (end_of result) }
 {
-    let mut k: usize = 0;
     let mut i = at;
-    while k < w.len() {
-        if !is_at(text, i, w[k]) {
-            return Place {
-                number: refusals::SYNTAX,
-                at: i,
-            };
+    for &letter in w {
+        if !is_at(text, i, letter) {
+            return Err(Fault::syntax(i));
         }
         i += 1;
-        k += 1;
     }
-    Place { number: 0, at: i }
+    Ok(i)
 }
 
-// F or G, whose letter is read and whose kind is given, as a prefix.
-fn window(text: &[u8], at: usize, kind: u8) -> Before
-    requires { at ≤ length text.now }
-    ensures { Windowed text.now at kind result.number result.at result.more result.item }
+// F or G, whose letter is read, as a prefix.
+fn window(text: &[u8], at: usize, o: Operator) -> Result<(Option<Item>, usize), Fault>
+    ensures { Windowed text.now at (kind_of o) (number_of result) (place_of result) (more_of result) (item_of result) }
 {
-    let v = interval(text, at);
-    let it = Item::new(kind, 0, v.lo, v.hi);
-    Before {
-        number: v.number,
-        at: v.at,
-        more: true,
-        item: it,
-    }
+    let ((lo, hi), end) = interval(text, at)?;
+    Ok((Some(Item::new(o.kind(), 0, lo, hi)), end))
 }
 
 // A prefix of a unary, if there is one.
-pub(crate) fn prefix(text: &[u8], at: usize) -> Before
-    requires { at ≤ length text.now }
-    ensures { Prefixes text.now at result.number result.at result.more result.item }
+pub(crate) fn prefix(text: &[u8], at: usize) -> Result<(Option<Item>, usize), Fault>
+    ensures { Prefixes text.now at (number_of result) (place_of result) (more_of result) (item_of result) }
 {
     let i = skip(text, at);
     if is_at(text, i, b'!') {
-        let it = Item::new(4, 0, 0, 0);
-        return Before {
-            number: 0,
-            at: i + 1,
-            more: true,
-            item: it,
-        };
+        return Ok((Some(Item::new(Operator::Not.kind(), 0, 0, 0)), i + 1));
     }
     if is_at(text, i, b'F') {
-        return window(text, i + 1, 7);
+        return window(text, i + 1, Operator::Finally);
     }
     if is_at(text, i, b'G') {
-        return window(text, i + 1, 8);
+        return window(text, i + 1, Operator::Globally);
     }
-    let it = Item::new(0, 0, 0, 0);
-    Before {
-        number: 0,
-        at: i,
-        more: false,
-        item: it,
-    }
+    Ok((None, i))
 }
 
-// U, 9, or R, 10, or neither, 0.
-pub(crate) fn between(text: &[u8], at: usize) -> u8
-    ensures { Between text.now at result }
+// U, or R, or neither.
+pub(crate) fn between(text: &[u8], at: usize) -> Option<Operator>
+    ensures { Between text.now at (option_map kind_of result) }
 {
     if is_at(text, at, b'U') {
-        return 9;
+        return Some(Operator::Until);
     }
     if is_at(text, at, b'R') {
-        return 10;
+        return Some(Operator::Release);
     }
-    0
+    None
 }

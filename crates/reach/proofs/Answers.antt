@@ -1,19 +1,23 @@
 -- The number of a call, and what it answers. Assumes nothing.
 use Prim.Native.Nat.{ℕ, ◌<◌}
 use mathlib.Core.Path.{◌≡◌, refl, sym, ap, ◌∙◌}
-use mathlib.Core.Bool.{Bool, true, false, not}
-use borrow.Author.Tests.{leb-false, lt-leb, ne_eqb, not-false}
-use lib.Dec.{leb, eqb}
+use mathlib.Core.Bool.{Bool, true, false, not, true≢false}
+use native.Mathlib.Omega.{arith}
+use borrow.Author.Tests.{eq-eqb, leb-false, lt-leb, not-false}
+use lib.Dec.{leb}
 use Rattle.refusals.specs.Numbers.{UNSOUND, ABSENT, BEYOND}
+use Rattle.std.specs.Prelude.{Ok, Err}
+use Rattle.refusals.specs.Refusals.{number_of}
+use Rattle.refusals.specs.declared.Refusal.{Refusal}
+use Rattle.refusals.proofs.Positive.{refuses}
 use Rattle.lists.specs.Choice.{pick}
 use Rattle.lists.proofs.Rows.{no_row}
 use Rattle.mltl.specs.Mltl.{delay, near}
 use Rattle.table.specs.Nodes.{watched_formula}
-use Rattle.table.specs.Sound.{Sound, is_sound, rule_delay_by, rule_delay}
+use Rattle.table.specs.Sound.{Sound, is_sound, RuleDelay, delay_told, rule_delay_by, rule_delay}
 use Rattle.table.specs.declared.Table.{Table}
 use Rattle.table.proofs.Soundness.{sound_iff}
-use Rattle.reach.specs.Reach.{refused, ticks_within, reach_rows, reach_number, reached}
-use Rattle.reach.specs.Code.Steps.{number_after}
+use Rattle.reach.specs.Reach.{reached_by, ticks_within, reach_rows, reach_number, reached}
 
 -- no row fits
 pub record Fits (t : Table) (rule n s : ℕ) : Type 0 where
@@ -22,18 +26,6 @@ pub record Fits (t : Table) (rule n s : ℕ) : Type 0 where
   pub inside : s < n
 
 module _ (t : Table) (rule n s : ℕ) where
-  -- the number by that of the rows for the rule
-  pub number_is : number_after (rule_delay t rule).number n s ≡ reach_number t rule n s
-  unfolding rule_delay_by reach_number
-  number_is = go (is_sound t) (leb t.rule_count rule)
-    where
-      go : (sound absent : Bool)
-          → let number = pick (not sound) UNSOUND (pick absent ABSENT 0) in
-          number_after number n s ≡ pick (not sound) UNSOUND (pick absent ABSENT (pick (leb n s) BEYOND 0))
-      go true true = refl
-      go true false = refl
-      go false absent = refl
-
   module _ (e : reach_number t rule n s ≡ 0) where
     pub reach_fits : Fits t rule n s
     unfolding reach_number
@@ -53,7 +45,26 @@ module _ (t : Table) (rule n s : ℕ) where
     pub told : reached t rule n s ≡ ticks_within (near (watched_formula t rule)) (delay (watched_formula t rule)) s
     told = rw e
 
-  pub refuses : {r : ℕ} → r ≡ reach_number t rule n s → ¬ (r ≡ 0) → refused r ≡ reached t rule n s
-  refuses {r} e z =
-      let q : eqb (reach_number t rule n s) 0 ≡ false = ap (λ (x : ℕ). eqb x 0) (sym e) ∙ ne_eqb r 0 z in
-      rw q (ap refused e)
+  pub refused_by : (f : Refusal) → number_of f ≡ reach_number t rule n s → reached_by (Err f) ≡ reached t rule n s
+  refused_by f e = rw (← e, refuses f)
+
+  -- a call that the rows for the rule refuse, and one that they do not
+  pub number_before : (f : Refusal) → delay_told (Err f) ≡ rule_delay t rule → number_of f ≡ reach_number t rule n s
+  unfolding rule_delay_by reach_number
+  number_before f e = go (is_sound t) (leb t.rule_count rule) (ap (λ (r : RuleDelay). r.number) e)
+    where
+      go : (sound absent : Bool) → number_of f ≡ pick (not sound) UNSOUND (pick absent ABSENT 0)
+          → number_of f ≡ pick (not sound) UNSOUND (pick absent ABSENT (pick (leb n s) BEYOND 0))
+      go true true h = h
+      go true false h = absurd (true≢false (sym (eq-eqb _ _ h) ∙ refuses f))
+      go false absent h = h
+
+  pub number_behind : {d : ℕ} → delay_told (Ok d) ≡ rule_delay t rule → pick (leb n s) BEYOND 0 ≡ reach_number t rule n s
+  unfolding rule_delay_by reach_number
+  number_behind e = go (is_sound t) (leb t.rule_count rule) (ap (λ (r : RuleDelay). r.number) e)
+    where
+      go : (sound absent : Bool) → 0 ≡ pick (not sound) UNSOUND (pick absent ABSENT 0)
+          → pick (leb n s) BEYOND 0 ≡ pick (not sound) UNSOUND (pick absent ABSENT (pick (leb n s) BEYOND 0))
+      go true true h = absurd (omega (arith, h))
+      go true false h = refl
+      go false absent h = absurd (omega (arith, h))

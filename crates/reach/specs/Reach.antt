@@ -1,13 +1,14 @@
 -- How far one bad reading reaches (document 02, A8): the ticks of a mission at which a rule's verdict may depend on the state of tick s.
-use Rattle.std.specs.Prelude.{ℕ, ◌-◌, ◌≤◌, ◌<◌, Bool, List, [], ◌∷◌, ◌++◌, ltb, leb, eqb}
+use Rattle.std.specs.Prelude.{ℕ, ◌-◌, ◌≤◌, ◌<◌, Bool, List, [], ◌∷◌, ◌++◌, ltb, leb, eqb, Option, None, Some, Result, Ok, Err}
 use Rattle.refusals.specs.Numbers.{BEYOND}
+use Rattle.refusals.specs.Refusals.{number_of}
+use Rattle.refusals.specs.declared.Refusal.{Refusal}
 use Rattle.lists.specs.Choice.{Row, pick, ◌if◌, first}
 use Rattle.mltl.specs.Mltl.{delay, near}
 use Rattle.table.specs.Nodes.{watched_formula}
 use Rattle.table.specs.Sound.{is_sound, rule_rows}
 use Rattle.table.specs.declared.Table.{Table}
-use Rattle.reach.specs.declared.Range.{Range}
-use Rattle.reach.specs.declared.Range.TheVariants.{Refused, Empty, Ticks}
+use Rattle.reach.specs.declared.Ticks.{Ticks}
 
 -- ---- answers
 -- the number of a refusal, no tick, or the ticks from a first to a last one
@@ -16,11 +17,15 @@ pub data Reached : Type 0 where
   empty : Reached
   ticks : ℕ → ℕ → Reached
 
+-- what a range of the code says: no tick, or those from the first to the last
+abbrev pub range_told : Option Ticks → Reached
+range_told None = empty
+range_told (Some t) = ticks t.first t.last
+
 -- what each case of an answer says
-abbrev pub reached_by : Range → Reached
-reached_by (Refused number) = refused number
-reached_by Empty = empty
-reached_by (Ticks first last) = ticks first last
+abbrev pub reached_by : Result (Option Ticks) Refusal → Reached
+reached_by (Err e) = refused (number_of e)
+reached_by (Ok r) = range_told r
 
 -- t is one of the ticks
 abbrev pub Among : Reached → ℕ → Type 0

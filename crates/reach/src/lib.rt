@@ -1,122 +1,63 @@
 // How far one bad reading reaches: the ticks at which a rule's verdict may change when the state of one tick does.
 #![tactic(auto)]
 
-ghost use Rattle.std.specs.Prelude.{◌≡◌, map, ◌≤◌, get_or, take};
-ghost use Rattle.limits.specs.Limits.{max_nodes};
-ghost use Rattle.lists.specs.Choice.{pick};
-ghost use Rattle.mltl.specs.Mltl.{near};
-ghost use Rattle.table.specs.Nodes.{measures, cap};
-ghost use Rattle.reach.specs.Reach.{reached_by, reached, ticks_within};
-ghost use Rattle.reach.specs.Code.Steps.{node_near, near_over, number_after};
+ghost use Rattle.std.specs.Prelude.{◌≡◌};
+ghost use Rattle.reach.specs.Reach.{range_told, reached_by, reached, ticks_within};
+ghost use Rattle.reach.specs.Code.Steps.{near_measure, near_step};
+ghost use Rattle.reach.specs.Code.Laws.{near_laws};
 
-use limits::{MAX_DELAY, MAX_NODES};
-use table::{Node, Table};
+use limits::MAX_NODES;
+use refusals::Refusal;
+use table::{Measure, Node, Operator, Table};
 
-// An answer: the number of a refusal, that there is no such tick, or the first and the last one.
+// The ticks from a first to a last one.
+#[derive(Clone, Copy, Debug, PartialEq, Eq)]
+pub struct Ticks {
+    pub first: u64,
+    pub last: u64,
+}
+
+// How many states after a verdict's tick the first state lies that it depends on.
 #[derive(Clone, Copy)]
-pub enum Range {
-    Refused(u8),
-    Empty,
-    Ticks(u64, u64),
-}
+struct Near;
 
-// Stands for every near distance that is longer than any delay.
-const OVERLONG: u16 = MAX_DELAY + 1;
+impl Measure for Near {
+    ghost of = { near_measure };
 
-// ---- the near distances of the nodes along a table, each from those before it; capped
+    ghost step = { near_step };
 
-// A value where it is used, and 0 otherwise.
-fn if_used(used: bool, x: u16) -> u16
-    ensures { result ≡ pick used x 0 }
-{
-    if used { x } else { 0 }
-}
+    ghost laws = { near_laws };
 
-// The near distance of a node by those of its operands.
-fn near_by(n: Node, a: u16, b: u16) -> usize
-    ensures { result ≡ node_near n a b }
-{
-    let u = table::uses_of(n.kind);
-    let lo = if_used(u.interval, n.lo);
-    let left = if_used(u.left, a);
-    let both = lists::lesser(a as usize, b as usize);
-    if u.right {
-        return lo as usize + both;
-    }
-    lo as usize + left as usize
-}
-
-// The near distance at a place before `place`, and 0 for any other.
-fn near_at(ds: &[u16; MAX_NODES], place: usize, at: u8) -> u16
-    requires { place ≤ max_nodes }
-    ensures { result ≡ get_or (take place ds.now) at 0 }
-{
-    let k = at as usize;
-    if k < place { ds[k] } else { 0 }
-}
-
-// The near distance of the node n at a place, capped, by those before it.
-fn near_over(ds: &[u16; MAX_NODES], place: usize, n: Node) -> u16
-    requires { place ≤ max_nodes }
-    ensures { result ≡ cap (near_over (take place ds.now) n) }
-{
-    let a = near_at(ds, place, n.left);
-    let b = near_at(ds, place, n.right);
-    let d = near_by(n, a, b);
-    if d < OVERLONG as usize {
-        d as u16
-    } else {
-        OVERLONG
+    fn at_node(self, n: Node, a: u16, b: u16) -> u32 {
+        let lo = n.lo as u32;
+        match Operator::try_from(n.kind) {
+            Ok(Operator::Not) => a as u32,
+            Ok(Operator::And | Operator::Or) => a.min(b) as u32,
+            Ok(Operator::Finally | Operator::Globally) => lo + a as u32,
+            Ok(Operator::Until | Operator::Release) => lo + a.min(b) as u32,
+            _ => 0,
+        }
     }
 }
 
-// Of all nodes.
-fn all_nears(t: Table) -> [u16; MAX_NODES]
-    ensures { result ≡ map cap (measures near t.nodes) }
+// The ticks from tick - delay to tick - near, if there are any.
+fn ticks_within(near: u16, delay: u16, tick: u64) -> Option<Ticks>
+    ensures { range_told result ≡ ticks_within near delay tick }
 {
-    let mut ds = [0u16; MAX_NODES];
-    let mut i: usize = 0;
-    while i < MAX_NODES {
-        let d = near_over(&ds, i, t.nodes[i]);
-        ds[i] = d;
-        i += 1;
-    }
-    ds
-}
-
-// ---- the call
-
-// The number of a call, by that of the rows for its rule.
-fn reach_number(number: u8, length: u64, tick: u64) -> u8
-    ensures { result ≡ number_after number length tick }
-{
-    let beyond = lists::either(length <= tick, refusals::BEYOND, 0);
-    lists::either(number != 0, number, beyond)
-}
-
-// The ticks from tick - delay to tick - near.
-fn ticks_within(near: u16, delay: u16, tick: u64) -> Range
-    ensures { reached_by result ≡ ticks_within near delay tick }
-{
-    let s = tick as usize;
-    let n = near as usize;
-    if s < n {
-        return Range::Empty;
-    }
-    let first = lists::over(s, delay as usize) as u64;
-    Range::Ticks(first, (s - n) as u64)
+    let last = tick.checked_sub(near as u64)?;
+    let first = tick.saturating_sub(delay as u64);
+    Some(Ticks { first, last })
 }
 
 // The ticks of a mission of so many states at which the verdict of a rule may depend on the state of `tick`.
-pub fn reach(t: Table, rule: usize, length: u64, tick: u64) -> Range
+pub fn reach(t: Table, rule: usize, length: u64, tick: u64) -> Result<Option<Ticks>, Refusal>
     ensures { reached_by result ≡ reached t rule length tick }
 {
-    let d = table::delay(t, rule);
-    let number = reach_number(d.number, length, tick);
-    if number != 0 {
-        return Range::Refused(number);
+    let delay = table::delay(t, rule)?;
+    if length <= tick {
+        return Err(Refusal::Beyond);
     }
-    let ds = all_nears(t);
-    let watched = t.rules[rule].watched;
-    ticks_within(near_at(&ds, MAX_NODES, watched), d.delay, tick)
+    let nears = table::measures(Near, t);
+    let near = table::measure_at(&nears, MAX_NODES, t.rules[rule].watched);
+    Ok(ticks_within(near, delay, tick))
 }

@@ -1,26 +1,23 @@
 -- Laws that the functions cite, and what one pass over a list finds. Assumes nothing.
-use Prim.Native.Nat.{ℕ, zero, suc, ◌+◌, ◌-◌, ◌≤◌, ◌<◌, max}
+use Prim.Native.Nat.{ℕ, suc, ◌-◌, ◌≤◌, ◌<◌, max, min}
 use native.Mathlib.Omega.{arith}
 use mathlib.Core.Path.{◌≡◌, refl, sym, ap, ◌∙◌}
-use mathlib.Core.Logic.{⊎_elim}
 use mathlib.Core.Bool.{Bool, ◌&&◌, ◌||◌, true, false}
-use mathlib.Core.List.{List, [], ◌∷◌}
+use mathlib.Core.List.{List, [], ◌∷◌, ◌++◌}
 use borrow.Author.Tests.{le-leb, ne_eqb}
 use lib.Dec.{ltb, leb, eqb}
-use lib.ListN.{length, set, take, length-set, length-take, get_or-eq_default}
-use lib.Seq.{set_out, get_or-set_same, get_or-set_other, get_or-take, ext_get_or}
+use lib.ListN.{length, take, drop, replicate, length-take}
+use lib.Seq.{get_or-take}
 use Rattle.limits.specs.Limits.{max_list}
-use Rattle.lists.specs.Sequence.{every}
-use Rattle.lists.proofs.Tests.{lt_or_le, same_test, and_iff, ltb_iff, leb_iff}
-use Rattle.lists.proofs.Sequences.{get_or_free, get_or_padded, get_or_take_out, length_padded}
+use Rattle.lists.specs.Sequence.{every, padded}
+use Rattle.lists.proofs.Tests.{same_test, and_iff, ltb_iff, leb_iff}
+use Rattle.lists.proofs.Sequences.{get_or_padded, get_or_take_out}
 use Rattle.records.specs.declared.Record.{Record}
 use Rattle.records.specs.declared.Summary.{Summary}
 use Rattle.records.specs.Records.{no_record, record_at}
 use Rattle.records.specs.Reading.{greatest, summary_of}
-use Rattle.records.specs.Code.Steps.{unread, read_one, read_all}
-
-pub set_past : (rs : List Record) (i : ℕ) (r : Record) → length rs ≡ max_list → max_list ≤ i → rs ≡ set rs i r
-set_past rs i r l h = sym (set_out rs i r (omega arith))
+use Rattle.std.specs.List.{fold}
+use Rattle.std.proofs.lemmas.List.{drop-replicate, take_min}
 
 -- ---- the first eight records
 pub summary_at : (rs : List Record) (j : ℕ) → j < max_list → record_at (summary_of rs).records j ≡ record_at rs j
@@ -31,9 +28,11 @@ pub summary_past : (rs : List Record) (j : ℕ) → max_list ≤ j → record_at
 unfolding summary_of
 summary_past rs j h = get_or_padded no_record (take max_list rs) (max_list - length (take max_list rs)) j ∙ get_or_take_out max_list rs j no_record h
 
-summary_long : (rs : List Record) → length (summary_of rs).records ≡ max_list
-unfolding summary_of
-summary_long rs = length_padded no_record max_list (take max_list rs) (simp length-take (omega arith))
+max_more : (a b c : ℕ) → max (max a b) c ≡ max a (max b c)
+max_more a b c = omega arith
+
+from_zero : (a : ℕ) → max 0 a ≡ a
+from_zero a = omega arith
 
 -- ---- a bound on each record is one on the largest
 most_within : (a c b : ℕ) → (leb a b && leb c b) ≡ leb (max a c) b
@@ -66,90 +65,30 @@ all_below f b i (r ∷ s ∷ rs) =
     let e : every (λ k r. ltb (f r) b) (suc i) (s ∷ rs) ≡ ltb (greatest f (s ∷ rs)) b = all_below f b (suc i) (s ∷ rs) ∙ ap (λ t. t || ltb (greatest f (s ∷ rs)) b) (none_not (length rs)) in
     ap (λ t. ltb (f r) b && t) e ∙ most_below (f r) (greatest f (s ∷ rs)) b ∙ sym (ap (λ t. t || ltb (greatest f (r ∷ s ∷ rs)) b) (none_not (suc (length rs))))
 
--- ---- the pass, record by record
-count_all : (s : Summary) (i : ℕ) (rs : List Record) → (read_all s i rs).count ≡ s.count
-unfolding read_all
-count_all s i [] = refl
-count_all s i (r ∷ rs) = count_all (read_one s i r) (suc i) rs
-
-max_more : (a b c : ℕ) → max (max a b) c ≡ max a (max b c)
-max_more a b c = omega arith
-
-from_zero : (a : ℕ) → max 0 a ≡ a
-from_zero a = omega arith
-
-highest_all : (s : Summary) (i : ℕ) (rs : List Record) → (read_all s i rs).highest ≡ max s.highest (greatest (λ r. r.rule) rs)
-unfolding read_all greatest
-highest_all s i [] = omega arith
-highest_all s i (r ∷ rs) = highest_all (read_one s i r) (suc i) rs ∙ max_more s.highest r.rule (greatest (λ r. r.rule) rs)
-
-longest_all : (s : Summary) (i : ℕ) (rs : List Record) → (read_all s i rs).longest ≡ max s.longest (greatest (λ r. r.waiting) rs)
-unfolding read_all greatest
-longest_all s i [] = omega arith
-longest_all s i (r ∷ rs) = longest_all (read_one s i r) (suc i) rs ∙ max_more s.longest r.waiting (greatest (λ r. r.waiting) rs)
-
-length_all : (s : Summary) (i : ℕ) (rs : List Record) → length s.records ≡ max_list → length (read_all s i rs).records ≡ max_list
-unfolding read_all
-length_all s i [] e = e
-length_all s i (r ∷ rs) e = length_all (read_one s i r) (suc i) rs (length-set s.records i r ∙ e)
-
--- places before i stay
-before_all : (s : Summary) (i : ℕ) (rs : List Record) (j : ℕ) → j < i → record_at (read_all s i rs).records j ≡ record_at s.records j
-unfolding read_all
-before_all s i [] j h = refl
-before_all s i (r ∷ rs) j h = before_all (read_one s i r) (suc i) rs j (omega arith) ∙ get_or-set_other s.records i j r no_record (λ e. omega arith)
-
--- place i + j gets record j, if there is one
-records_all : (s : Summary) (i : ℕ) (rs : List Record) (j : ℕ) → length s.records ≡ max_list → i + j < max_list → j < length rs
-    → record_at (read_all s i rs).records (i + j) ≡ record_at rs j
-unfolding read_all
-records_all s i [] j e h l = absurd (omega arith)
-records_all s i (r ∷ rs) zero e h l =
-    let p : i + 0 ≡ i = omega arith in
-    ap (record_at (read_all (read_one s i r) (suc i) rs).records) p ∙ before_all (read_one s i r) (suc i) rs i (omega arith)
-    ∙ get_or-set_same s.records i r no_record (omega arith)
-records_all s i (r ∷ rs) (suc j) e h l =
-    let p : i + suc j ≡ suc i + j = omega arith in
-    ap (record_at (read_all (read_one s i r) (suc i) rs).records) p
-    ∙ records_all (read_one s i r) (suc i) rs j (length-set s.records i r ∙ e) (omega arith) (omega arith)
-
--- places past the last record stay
-after_all : (s : Summary) (i : ℕ) (rs : List Record) (j : ℕ) → i + length rs ≤ j → record_at (read_all s i rs).records j ≡ record_at s.records j
-unfolding read_all
-after_all s i [] j h = refl
-after_all s i (r ∷ rs) j h = after_all (read_one s i r) (suc i) rs j (omega arith) ∙ get_or-set_other s.records i j r no_record (λ e. omega arith)
-
 -- ---- the pass finds the summary
-module _ (ys : List Record) where
-  abbrev found : Summary
-  found = read_all (unread (length ys)) 0 ys
+-- the largest of two measures, record by record
+both_greatest : (f g : Record → ℕ) (m n : ℕ) (rs : List Record) → fold (λ (a : ℕ × ℕ) r. (max a.0 (f r), max a.1 (g r))) (m, n) rs ≡ (max m (greatest f rs), max n (greatest g rs))
+unfolding greatest
+both_greatest f g m n [] = let e : max m 0 ≡ m = omega arith in let k : max n 0 ≡ n = omega arith in rw (e, k)
+both_greatest f g m n (r ∷ rs) =
+    both_greatest f g (max m (f r)) (max n (g r)) rs
+    ∙ rw (max_more m (f r) (greatest f rs), max_more n (g r) (greatest g rs))
 
-  found_highest : found.highest ≡ greatest (λ r. r.rule) ys
-  found_highest = highest_all (unread (length ys)) 0 ys ∙ from_zero (greatest (λ r. r.rule) ys)
+pub most_of_both : (f g : Record → ℕ) (rs : List Record) → fold (λ (a : ℕ × ℕ) r. (max a.0 (f r), max a.1 (g r))) (0, 0) rs ≡ (greatest f rs, greatest g rs)
+most_of_both f g rs = both_greatest f g 0 0 rs ∙ rw (from_zero (greatest f rs), from_zero (greatest g rs))
 
-  found_longest : found.longest ≡ greatest (λ r. r.waiting) ys
-  found_longest = longest_all (unread (length ys)) 0 ys ∙ from_zero (greatest (λ r. r.waiting) ys)
+-- the first eight, and none in the places that are left
+pub first_eight : (rs : List Record) (n : ℕ) → n ≡ min (length rs) max_list → take n rs ++ drop n (replicate max_list no_record) ≡ padded no_record max_list (take max_list rs)
+first_eight rs n e =
+    let m : n ≡ min max_list (length rs) = e ∙ omega arith in
+    let l : n ≡ length (take max_list rs) = m ∙ sym (length-take max_list rs) in
+    let t : take n rs ≡ take max_list rs = ap (λ (i : ℕ). take i rs) m ∙ take_min max_list rs in
+    let z : drop n (replicate max_list no_record) ≡ replicate (max_list - length (take max_list rs)) no_record =
+    drop-replicate n max_list no_record ∙ ap (λ (i : ℕ). replicate (max_list - i) no_record) l in
+    rw (t, z)
 
-  found_at : (j : ℕ) → j < max_list → record_at found.records j ≡ record_at ys j
-  found_at j h =
-      let z : 0 + j ≡ j = omega arith in
-      ⊎_elim
-      (λ (l : j < length ys). ap (record_at found.records) (sym z) ∙ records_all (unread (length ys)) 0 ys j refl (omega arith) l)
-      (λ (l : length ys ≤ j). after_all (unread (length ys)) 0 ys j (omega arith) ∙ get_or_free no_record max_list j ∙ sym (get_or-eq_default ys no_record l))
-      (lt_or_le j (length ys))
-
-  found_records : found.records ≡ (summary_of ys).records
-  found_records =
-      let l : length found.records ≡ max_list = length_all (unread (length ys)) 0 ys refl in
-      ext_get_or no_record found.records (summary_of ys).records (l ∙ sym (summary_long ys)) λ j h.
-      let b : j < max_list = omega arith in
-      found_at j b ∙ sym (summary_at ys j b)
-
-  pub read_is : read_all (unread (length ys)) 0 ys ≡ summary_of ys
-  unfolding summary_of
-  read_is = λ k. record {
-    count = count_all (unread (length ys)) 0 ys k;
-    highest = found_highest k;
-    longest = found_longest k;
-    records = found_records k;
-  }
+pub found_is : (rs : List Record) {n : ℕ} {d : Record} {copied : List Record} {most : ℕ × ℕ} → n ≡ min (length rs) max_list → d ≡ no_record → copied ≡ take n rs
+    → most ≡ (greatest (λ r. r.rule) rs, greatest (λ r. r.waiting) rs)
+    → ◌≡◌ {A = Summary} (record { count = length rs; highest = most.0; longest = most.1; records = copied ++ drop n (replicate max_list d) }) (summary_of rs)
+unfolding summary_of
+found_is rs e z c m = rw (z, c, m, first_eight rs _ e)

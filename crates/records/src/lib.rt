@@ -1,16 +1,15 @@
 // The scheduler's list of records, read and changed by thin functions.
 #![tactic(auto)]
 
-ghost use Rattle.std.specs.Prelude.{◌≡◌, max};
+ghost use Rattle.std.specs.Prelude.{◌≡◌};
 ghost use Rattle.records.specs.Records.{record_at, with_seen, with_waiting, applied};
 ghost use Rattle.records.specs.Reading.{summary_of};
-ghost use Rattle.records.specs.Code.Steps.{unread, read_one};
 
 use limits::MAX_LIST;
 
 // What the scheduler keeps of one rule: its number, how many states it has seen, and how many wait. In C the same 24 bytes.
 #[repr(C)]
-#[derive(Clone, Copy)]
+#[derive(Clone, Copy, Default)]
 pub struct Record {
     pub rule: usize,
     pub seen: u64,
@@ -39,95 +38,49 @@ pub struct Change {
 pub fn record_at(list: &[Record], i: usize) -> Record
     ensures { result ≡ record_at list.now i }
 {
-    if list.len() <= i {
-        return Record {
-            rule: 0,
-            seen: 0,
-            waiting: 0,
-        };
-    }
-    list[i]
+    list.get(i).copied().unwrap_or_default()
 }
 
 // Changes one count of states seen; past the end nothing.
 pub fn set_seen(list: &mut [Record], i: usize, v: u64)
     ensures { list.new ≡ with_seen list.old i v }
 {
-    if list.len() <= i {
-        return;
+    if i < list.len() {
+        list[i].seen = v;
     }
-    list[i].seen = v;
 }
 
 // Changes one number of waiting states; past the end nothing.
 pub fn set_waiting(list: &mut [Record], i: usize, v: usize)
     ensures { list.new ≡ with_waiting list.old i v }
 {
-    if list.len() <= i {
-        return;
-    }
-    list[i].waiting = v;
-}
-
-// Before the first record.
-fn begin(count: usize) -> Summary
-    ensures { result ≡ unread count }
-{
-    let none = Record {
-        rule: 0,
-        seen: 0,
-        waiting: 0,
-    };
-    Summary {
-        count,
-        highest: 0,
-        longest: 0,
-        records: [none; MAX_LIST],
+    if i < list.len() {
+        list[i].waiting = v;
     }
 }
 
-fn larger(a: usize, b: usize) -> usize
-    ensures { result ≡ max a b }
-{
-    if a < b { b } else { a }
-}
-
-// The record at place i is read.
-fn take(s: Summary, i: usize, r: Record) -> Summary
-    ensures { result ≡ read_one s i r }
-{
-    let mut next = s;
-    next.highest = larger(s.highest, r.rule);
-    next.longest = larger(s.longest, r.waiting);
-    if MAX_LIST <= i {
-        return next;
-    }
-    next.records[i] = r;
-    next
-}
-
-// One pass over the list.
+// One pass over the list; the first eight records are copied.
 pub fn scan(list: &[Record]) -> Summary
     ensures { result ≡ summary_of list.now }
 {
-    let n = list.len();
-    let mut s = begin(n);
-    let mut i = 0;
-    while i < n {
-        let r = record_at(list, i);
-        s = take(s, i, r);
-        i = i + 1;
+    let kept = list.len().min(MAX_LIST);
+    let mut records = [Record::default(); MAX_LIST];
+    records[..kept].copy_from_slice(&list[..kept]);
+    let (highest, longest) = list.iter().fold((0, 0), |(rule, waiting), r| {
+        (rule.max(r.rule), waiting.max(r.waiting))
+    });
+    Summary {
+        count: list.len(),
+        highest,
+        longest,
+        records,
     }
-    s
 }
 
 // The list is lent to the first call, and given to the second.
 pub fn apply(list: &mut [Record], c: Change)
     ensures { list.new ≡ applied list.old c }
 {
-    let place = c.place;
-    let seen = c.seen;
-    let waiting = c.waiting;
-    set_seen(list, place, seen);
-    set_waiting(list, place, waiting);
+    set_seen(list, c.place, c.seen);
+    set_waiting(list, c.place, c.waiting);
 }

@@ -1,0 +1,2 @@
+-- no refusal has the number 0
+pub mod Positive

@@ -1,17 +1,12 @@
 -- The bytes after a call and after a write, from the steps of the code; and a place that is read. Assumes nothing.
-use Prim.Native.Nat.{ℕ, ◌<◌, ◌≤◌}
-use native.Mathlib.Omega.{arith}
-use mathlib.Core.Path.{◌≡◌, refl, sym, ◌∙◌}
+use Prim.Native.Nat.{ℕ}
+use mathlib.Core.Path.{◌≡◌, refl}
 use mathlib.Core.List.{List}
-use mathlib.Core.Logic.{⊎_elim}
-use borrow.Author.Tests.{eq-eqb, ne_eqb, lt-ltb}
-use lib.ListN.{get_or}
-use Rattle.lists.proofs.Tests.{lt_or_le}
+use borrow.Author.Tests.{eq-eqb, ne_eqb}
 use Rattle.registers.specs.declared.Flags.{Flags}
 use Rattle.registers.specs.declared.Registers.{Registers}
 use Rattle.registers.specs.declared.Outcome.{Outcome}
-use Rattle.registers.specs.declared.Reading.{Reading}
-use Rattle.registers.specs.Registers.{flags_from, bytes_of, registers_from, accepted_by, refused_by, after_call, cleared, enabled, after_write, place_number, reading_of}
+use Rattle.registers.specs.Registers.{flags_from, bytes_of, registers_from, accepted_by, refused_by, after_call, cleared, enabled, after_write, place_number}
 
 module _ (b : List ℕ) {b' : List ℕ} {r k : Registers} (loaded : r ≡ registers_from b) (stored : b' ≡ bytes_of k) where
   pub noted_accepted : (o : Outcome) → o.number ≡ 0 → k ≡ accepted_by o r → b' ≡ after_call o b
@@ -34,18 +29,3 @@ module _ (b : List ℕ) {b' : List ℕ} {r k : Registers} (loaded : r ≡ regist
 pub written_other : (place value : ℕ) (b : List ℕ) → (place ≡ 0 → ⊥) → (place ≡ 1 → ⊥) → b ≡ after_write place value b
 unfolding after_write
 written_other place value b p q = rw (ne_eqb place 0 p, ne_eqb place 1 q)
-
--- ---- a place, and the number that is found for it
-module _ (place : ℕ) {n : ℕ} (b : List ℕ) (found : n ≡ place_number place) where
-  pub read_refused : (n ≡ 0 → ⊥) → ◌≡◌ {A = Reading} (record { number = n; value = 0 }) (reading_of place b)
-  read_refused z = rw (sym found, ne_eqb n 0 z)
-
-  pub place_there : n ≡ 0 → place < 16
-  place_there z =
-      ⊎_elim (λ (h : 15 < place). absurd (some_number (sym z ∙ found ∙ rw (lt-ltb 15 place h)))) (λ (h : place ≤ 15). omega arith) (lt_or_le 15 place)
-    where
-      some_number : ◌≡◌ {A = ℕ} 0 38 → ⊥
-      some_number e = omega arith
-
-  pub read_accepted : n ≡ 0 → ◌≡◌ {A = Reading} (record { number = n; value = get_or b place 0 }) (reading_of place b)
-  read_accepted z = rw (sym found, eq-eqb n 0 z)

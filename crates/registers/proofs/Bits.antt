@@ -1,6 +1,5 @@
 -- The bits of a byte as the code takes them, and a flag as a byte. Assumes nothing.
-use Prim.Native.Nat.{ℕ, ◌/◌, ◌%◌, ◌<◌}
-use native.Mathlib.Omega.{arith}
+use Prim.Native.Nat.{ℕ, ◌/◌, ◌%◌}
 use native.Mathlib.Nat.{div-one}
 use mathlib.Core.Path.{◌≡◌, refl, sym, ap}
 use mathlib.Core.Bool.{Bool, true, false}
@@ -9,10 +8,6 @@ use mir.Val.{bool_byte}
 use Rattle.registers.specs.declared.Flags.{Flags}
 use Rattle.registers.specs.Registers.{flags_from}
 use Rattle.lists.specs.Bits.{bit, digit}
-
-pub flag_lt : (b : Bool) → bool_byte b < 2
-flag_lt true = omega arith
-flag_lt false = omega arith
 
 pub flag_digit : (b : Bool) → bool_byte b ≡ digit b
 flag_digit true = refl

@@ -2,10 +2,15 @@
 use Prim.Native.Nat.{ℕ, ◌+◌, ◌*◌, ◌/◌, ◌%◌, ◌^◌, ◌<◌}
 use native.Mathlib.Nat.{add_assoc, mul_assoc, mul-add, mod-add-div, div-div-eq-div-mul}
 use native.Mathlib.Omega.{arith}
-use mathlib.Core.Path.{◌≡◌, refl, ap, ◌∙◌}
+use mathlib.Core.Path.{◌≡◌, refl, sym, ap, ◌∙◌}
 use mathlib.Core.Bool.{Bool, true, false}
 use mathlib.Core.Logic.{◌↔◌}
+use mathlib.Core.List.{List}
 use lib.Dec.{eqb}
+use lib.ListN.{length, get_or}
+use lib.Seq.{ext_get_or}
+use Rattle.lists.specs.Sequence.{ticks}
+use Rattle.lists.proofs.Sequences.{get_or_ticks}
 use Rattle.lists.specs.Bits.{bit, digit}
 use Rattle.lists.proofs.Bits.{digit_lt, digit_flag}
 use Rattle.registers.specs.declared.Flags.{Flags}
@@ -60,6 +65,11 @@ pub registers_back : (s f : Flags) (n x : ℕ)
     → ◌≡◌ {A = Registers} (registers_from (bytes_of (record { status = s; enable = f; number = n; first = eight_bytes x })))
     (record { status = s; enable = f; number = n; first = eight_bytes x })
 registers_back s f n x i = record { status = flags_back s i; enable = flags_back f i; number = n; first = eight_bytes x }
+
+-- eight bytes, one by one
+pub eight_listed : (xs : List ℕ) → length xs ≡ 8 → xs ≡ ticks (λ k. get_or xs k 0) 8
+eight_listed xs l =
+    ext_get_or 0 xs (ticks (λ k. get_or xs k 0) 8) l (λ i h. sym (get_or_ticks (λ k. get_or xs k 0) 8 i 0 (omega arith)))
 
 -- ---- a number from its 8 bytes
 -- the sum s up to a, and one byte more

@@ -1,8 +1,10 @@
 -- The status registers: sixteen bytes for a program that looks on while sessions run (A10). What they hold, and what one session call and
 -- one write do to them, whatever they held before.
-use Rattle.std.specs.Prelude.{ℕ, ◌+◌, ◌*◌, ◌/◌, ◌%◌, Bool, true, false, ◌&&◌, ◌||◌, not, List, [], ◌∷◌, ◌++◌, ltb, eqb, get_or, replicate}
+use Rattle.std.specs.Prelude.{ℕ, ◌+◌, ◌*◌, ◌/◌, ◌%◌, Bool, true, false, ◌&&◌, ◌||◌, not, List, [], ◌∷◌, ◌++◌, ltb, eqb, get_or, replicate, Result, Ok, Err}
 use Rattle.limits.specs.Limits.{status_bytes}
 use Rattle.refusals.specs.Numbers.{PLACE}
+use Rattle.refusals.specs.Refusals.{number_of}
+use Rattle.refusals.specs.declared.Refusal.{Refusal}
 use Rattle.lists.specs.Choice.{Row, pick, ◌if◌, first}
 use Rattle.lists.specs.Sequence.{ticks}
 use Rattle.lists.specs.Bits.{bit, digit}
@@ -11,7 +13,29 @@ use Rattle.registers.specs.declared.Registers.{Registers}
 use Rattle.registers.specs.declared.Kind.{Kind}
 use Rattle.registers.specs.declared.Kind.TheVariants.{Open, Widen, Feed, Close}
 use Rattle.registers.specs.declared.Outcome.{Outcome}
-use Rattle.registers.specs.declared.Reading.{Reading}
+use Rattle.registers.specs.declared.Verdicts.{Verdicts}
+use Rattle.registers.specs.declared.Verdicts.TheVariants.{Nothing, Yes, No}
+
+-- ---- what an accepted call gave: whether a verdict, whether a no, and the tick of its first no
+abbrev pub gives_by : Verdicts → Bool
+gives_by Nothing = false
+gives_by Yes = true
+gives_by (No tick) = true
+
+abbrev pub fails_by : Verdicts → Bool
+fails_by Nothing = false
+fails_by Yes = false
+fails_by (No tick) = true
+
+abbrev pub tick_by : Verdicts → ℕ
+tick_by Nothing = 0
+tick_by Yes = 0
+tick_by (No tick) = tick
+
+-- what the code notes of a call
+abbrev pub outcome_told : Kind → Result Verdicts Refusal → Outcome
+outcome_told kind (Ok v) = record { kind = kind; number = 0; gives = gives_by v; fails = fails_by v; tick = tick_by v }
+outcome_told kind (Err e) = record { kind = kind; number = number_of e; gives = false; fails = false; tick = 0 }
 
 -- ---- the four flags of status and of enable: bits 0 to 3 of a byte
 abbrev pub flags_from : ℕ → Flags
@@ -122,6 +146,15 @@ place_rows place = (PLACE if ltb 15 place) ∷ []
 abbrev pub place_number : ℕ → ℕ
 place_number place = first (place_rows place)
 
--- the byte at a place, 0 where the place is refused
+-- the number of a refusal or 0, and the byte at a place, 0 where the place is refused
+pub record Reading : Type 0 where
+  pub number : ℕ
+  pub value : ℕ
+
+-- what an answer of the code says
+abbrev pub reading_told : Result ℕ Refusal → Reading
+reading_told (Ok x) = record { number = 0; value = x }
+reading_told (Err e) = record { number = number_of e; value = 0 }
+
 abbrev pub reading_of : ℕ → List ℕ → Reading
 reading_of place b = let n = place_number place in record { number = n; value = pick (eqb n 0) (get_or b place 0) 0 }

@@ -2,9 +2,12 @@
 #![tactic(auto)]
 
 ghost use Rattle.std.specs.Prelude.{◌≡◌};
-ghost use Rattle.registers.specs.Registers.{flags_from, byte_of, share, eight_bytes, bytes_of, registers_from, running_after, tick_of, first_after, accepted_by, refused_by, after_call, cleared, enabled, after_write, place_number, reading_of};
+ghost use Rattle.std.specs.Prelude.{Ok};
+ghost use Rattle.refusals.specs.Refusals.{number_of, number};
+ghost use Rattle.registers.specs.Registers.{gives_by, fails_by, tick_by, outcome_told, flags_from, byte_of, share, bytes_of, registers_from, running_after, first_after, accepted_by, after_call, cleared, enabled, after_write, place_number, reading_told, reading_of, tick_of, refused_by};
 
 use limits::STATUS_BYTES;
+use refusals::Refusal;
 
 // Bits 0 to 3 of status and of enable: running, verdicts ready, a no was given, a call was refused.
 #[derive(Clone, Copy)]
@@ -33,6 +36,46 @@ pub enum Kind {
     Close,
 }
 
+// The verdicts that an accepted call gave: none, all of them yes, or with the tick of its first no.
+#[derive(Clone, Copy)]
+pub enum Verdicts {
+    Nothing,
+    Yes,
+    No(u64),
+}
+
+impl Verdicts {
+    // A verdict is given.
+    fn gives(self) -> bool
+        ensures { result ≡ gives_by self }
+    {
+        match self {
+            Verdicts::Nothing => false,
+            Verdicts::Yes | Verdicts::No(_) => true,
+        }
+    }
+
+    // A no is given.
+    fn fails(self) -> bool
+        ensures { result ≡ fails_by self }
+    {
+        match self {
+            Verdicts::Nothing | Verdicts::Yes => false,
+            Verdicts::No(_) => true,
+        }
+    }
+
+    // The tick of the first no; 0 where there is none.
+    fn tick(self) -> u64
+        ensures { result ≡ tick_by self }
+    {
+        match self {
+            Verdicts::Nothing | Verdicts::Yes => 0,
+            Verdicts::No(tick) => tick,
+        }
+    }
+}
+
 // What a session call came to: its number, whether it gave a verdict and whether a no, and the tick of its first no.
 #[derive(Clone, Copy)]
 pub struct Outcome {
@@ -43,159 +86,147 @@ pub struct Outcome {
     pub tick: u64,
 }
 
-// The number of a refusal or 0, and the byte at a place.
-#[derive(Clone, Copy)]
-pub struct Reading {
-    pub number: u8,
-    pub value: u8,
+impl Outcome {
+    // Of a call of this kind, by what it answered.
+    pub fn of(kind: Kind, came: Result<Verdicts, Refusal>) -> Outcome
+        ensures { result ≡ outcome_told kind came }
+    {
+        match came {
+            Ok(v) => Outcome {
+                kind,
+                number: 0,
+                gives: v.gives(),
+                fails: v.fails(),
+                tick: v.tick(),
+            },
+            Err(e) => Outcome {
+                kind,
+                number: e.number(),
+                gives: false,
+                fails: false,
+                tick: 0,
+            },
+        }
+    }
 }
 
 // ---- bytes
 
-fn flags_from(x: u8) -> Flags
-    ensures { result ≡ flags_from x }
-{
-    Flags {
-        running: x % 2 == 1,
-        ready: x / 2 % 2 == 1,
-        failed: x / 4 % 2 == 1,
-        refused: x / 8 % 2 == 1,
+impl Flags {
+    // The low four bits.
+    fn from_byte(x: u8) -> Flags
+        ensures { result ≡ flags_from x }
+    {
+        Flags {
+            running: x % 2 == 1,
+            ready: x / 2 % 2 == 1,
+            failed: x / 4 % 2 == 1,
+            refused: x / 8 % 2 == 1,
+        }
+    }
+
+    // The flags as the low four bits of a byte.
+    fn byte(self) -> u8
+        ensures { result ≡ byte_of self }
+    {
+        self.running as u8
+            + 2 * (self.ready as u8)
+            + 4 * (self.failed as u8)
+            + 8 * (self.refused as u8)
+    }
+
+    // A flag is set in both.
+    fn shares(self, other: Flags) -> bool
+        ensures { result ≡ share self other }
+    {
+        (self.running && other.running)
+            || (self.ready && other.ready)
+            || (self.failed && other.failed)
+            || (self.refused && other.refused)
     }
 }
 
-fn byte_of(f: Flags) -> u8
-    ensures { result ≡ byte_of f }
-{
-    f.running as u8 + 2 * (f.ready as u8) + 4 * (f.failed as u8) + 8 * (f.refused as u8)
-}
-
-fn shared(f: Flags, g: Flags) -> bool
-    ensures { result ≡ share f g }
-{
-    (f.running & g.running) | (f.ready & g.ready) | (f.failed & g.failed) | (f.refused & g.refused)
-}
-
-fn eight_bytes(x: u64) -> [u8; 8]
-    ensures { result ≡ eight_bytes x }
-{
-    [
-        (x % 256) as u8,
-        (x / 256 % 256) as u8,
-        (x / 65536 % 256) as u8,
-        (x / 16777216 % 256) as u8,
-        (x / 4294967296 % 256) as u8,
-        (x / 1099511627776 % 256) as u8,
-        (x / 281474976710656 % 256) as u8,
-        (x / 72057594037927936 % 256) as u8,
-    ]
-}
-
-fn load(b: &[u8; STATUS_BYTES]) -> Registers
-    ensures { result ≡ registers_from b.now }
-{
-    let first = [b[4], b[5], b[6], b[7], b[8], b[9], b[10], b[11]];
-    Registers {
-        status: flags_from(b[0]),
-        enable: flags_from(b[1]),
-        number: b[3],
-        first,
+impl Registers {
+    // What the sixteen bytes hold.
+    fn load(b: &[u8; STATUS_BYTES]) -> Registers
+        ensures { result ≡ registers_from b.now }
+    {
+        Registers {
+            status: Flags::from_byte(b[0]),
+            enable: Flags::from_byte(b[1]),
+            number: b[3],
+            first: [b[4], b[5], b[6], b[7], b[8], b[9], b[10], b[11]],
+        }
     }
-}
 
-fn store(r: Registers, b: &mut [u8; STATUS_BYTES])
-    ensures { b.new ≡ bytes_of r }
-{
-    let status = r.status;
-    let enable = r.enable;
-    let f = r.first;
-    let bytes = [
-        byte_of(status),
-        byte_of(enable),
-        shared(status, enable) as u8,
-        r.number,
-        f[0],
-        f[1],
-        f[2],
-        f[3],
-        f[4],
-        f[5],
-        f[6],
-        f[7],
-        0,
-        0,
-        0,
-        0,
-    ];
-    *b = bytes;
+    // The sixteen bytes; byte 2 is the interrupt.
+    fn bytes(self) -> [u8; STATUS_BYTES]
+        ensures { result ≡ bytes_of self }
+    {
+        let mut b = [0; STATUS_BYTES];
+        b[0] = self.status.byte();
+        b[1] = self.enable.byte();
+        b[2] = self.status.shares(self.enable) as u8;
+        b[3] = self.number;
+        b[4..12].copy_from_slice(&self.first);
+        b
+    }
 }
 
 // ---- session calls
 
+// Bit 0: an accepted open sets it, and an accepted close clears it.
 fn running_after(kind: Kind, was: bool) -> bool
     ensures { result ≡ running_after kind was }
 {
     match kind {
         Kind::Open => true,
-        Kind::Widen => was,
-        Kind::Feed => was,
+        Kind::Widen | Kind::Feed => was,
         Kind::Close => false,
     }
 }
 
+// The tick of the first no; 0 where there is none.
 fn tick_of(o: Outcome) -> u64
     ensures { result ≡ tick_of o }
 {
     if o.fails { o.tick } else { 0 }
 }
 
+// The bytes of the first no's tick: they stay where it is `set`.
 fn first_after(set: bool, first: [u8; 8], tick: u64) -> [u8; 8]
     ensures { result ≡ first_after set first tick }
 {
-    if set {
-        return first;
-    }
-    eight_bytes(tick)
+    if set { first } else { tick.to_le_bytes() }
 }
 
+// After an accepted call.
 fn accepted_by(o: Outcome, r: Registers) -> Registers
     ensures { result ≡ accepted_by o r }
 {
     let was = r.status;
-    let enable = r.enable;
-    let before = r.first;
-    let kind = o.kind;
-    let first = first_after(was.failed, before, tick_of(o));
     let status = Flags {
-        running: running_after(kind, was.running),
-        ready: was.ready | o.gives,
-        failed: was.failed | o.fails,
-        refused: was.refused,
+        running: running_after(o.kind, was.running),
+        ready: was.ready || o.gives,
+        failed: was.failed || o.fails,
+        ..was
     };
-    Registers {
-        status,
-        enable,
-        number: r.number,
-        first,
-    }
+    let first = first_after(was.failed, r.first, tick_of(o));
+    Registers { status, first, ..r }
 }
 
+// After a refused call.
 fn refused_by(o: Outcome, r: Registers) -> Registers
     ensures { result ≡ refused_by o r }
 {
-    let was = r.status;
-    let enable = r.enable;
-    let first = r.first;
     let status = Flags {
-        running: was.running,
-        ready: was.ready,
-        failed: was.failed,
         refused: true,
+        ..r.status
     };
     Registers {
         status,
-        enable,
         number: o.number,
-        first,
+        ..r
     }
 }
 
@@ -203,83 +234,69 @@ fn refused_by(o: Outcome, r: Registers) -> Registers
 pub fn note(b: &mut [u8; STATUS_BYTES], o: Outcome)
     ensures { b.new ≡ after_call o b.old }
 {
-    let r = load(b);
+    let r = Registers::load(b);
     if o.number == 0 {
-        store(accepted_by(o, r), b);
-        return;
+        *b = accepted_by(o, r).bytes();
+    } else {
+        *b = refused_by(o, r).bytes();
     }
-    store(refused_by(o, r), b);
 }
 
 // ---- writes and reads
 
+// Clears those of bits 1 to 3 of the status that are set in `by`.
 fn cleared_by(by: Flags, r: Registers) -> Registers
     ensures { result ≡ cleared by r }
 {
     let was = r.status;
-    let enable = r.enable;
-    let before = r.first;
     let status = Flags {
-        running: was.running,
-        ready: was.ready & !by.ready,
-        failed: was.failed & !by.failed,
-        refused: was.refused & !by.refused,
+        ready: was.ready && !by.ready,
+        failed: was.failed && !by.failed,
+        refused: was.refused && !by.refused,
+        ..was
     };
-    let first = first_after(status.failed, before, 0);
-    Registers {
-        status,
-        enable,
-        number: r.number,
-        first,
-    }
+    let first = first_after(status.failed, r.first, 0);
+    Registers { status, first, ..r }
 }
 
+// With the flags of enable set anew.
 fn enabled_by(by: Flags, r: Registers) -> Registers
     ensures { result ≡ enabled by r }
 {
-    let status = r.status;
-    let first = r.first;
-    Registers {
-        status,
-        enable: by,
-        number: r.number,
-        first,
+    Registers { enable: by, ..r }
+}
+
+// There are sixteen places.
+fn check_place(place: usize) -> Result<(), Refusal>
+    ensures { number result ≡ place_number place }
+{
+    if place < STATUS_BYTES {
+        Ok(())
+    } else {
+        Err(Refusal::Place)
     }
 }
 
-fn place_number(place: usize) -> u8
-    ensures { result ≡ place_number place }
+// Writes a byte to a place: clears bits of the status, or sets enable.
+pub fn write(b: &mut [u8; STATUS_BYTES], place: usize, value: u8) -> Result<(), Refusal>
+    ensures { (number result ≡ place_number place) × (b.new ≡ after_write place value b.old) }
 {
-    lists::either(15 < place, refusals::PLACE, 0)
-}
-
-// Writes a byte to a place: clears bits of the status, or sets enable. The number of the refusal or 0.
-pub fn write(b: &mut [u8; STATUS_BYTES], place: usize, value: u8) -> u8
-    ensures { (result ≡ place_number place) × (b.new ≡ after_write place value b.old) }
-{
-    if place == 0 {
-        let r = load(b);
-        store(cleared_by(flags_from(value), r), b);
-        return 0;
+    match place {
+        0 => {
+            *b = cleared_by(Flags::from_byte(value), Registers::load(b)).bytes();
+            Ok(())
+        }
+        1 => {
+            *b = enabled_by(Flags::from_byte(value), Registers::load(b)).bytes();
+            Ok(())
+        }
+        _ => check_place(place),
     }
-    if place == 1 {
-        let r = load(b);
-        store(enabled_by(flags_from(value), r), b);
-        return 0;
-    }
-    place_number(place)
 }
 
 // The byte at a place.
-pub fn read(b: &[u8; STATUS_BYTES], place: usize) -> Reading
-    ensures { result ≡ reading_of place b.now }
+pub fn read(b: &[u8; STATUS_BYTES], place: usize) -> Result<u8, Refusal>
+    ensures { reading_told result ≡ reading_of place b.now }
 {
-    let number = place_number(place);
-    if number != 0 {
-        return Reading { number, value: 0 };
-    }
-    Reading {
-        number,
-        value: b[place],
-    }
+    b.get(place).copied().ok_or(Refusal::Place)
 }

@@ -9,8 +9,10 @@ use native.Mathlib.Numerals.{add-one}
 use native.Mathlib.Omega.{arith}
 use borrow.Author.Tests.{lt-ltb, le-ltb}
 use lib.Dec.{eqb, ltb}
-use lib.ListN.{length, take, drop, get_or, set, length-append}
-use lib.Seq.{sets, sets-eq, take-append_seam, length-sets, take-suc, length-take-le}
+use lib.ListN.{length, take, drop, set, length-append}
+use lib.Seq.{sets-eq, take-append_seam, length-sets, take-length}
+use borrow.Rule.Slice.PartMut.{put_mid}
+use Rattle.std.proofs.lemmas.Slice.{put_mid-paste}
 use Rattle.io.specs.Digits.{last_digits, IsDigitCount, hex_digit_ascii}
 use Rattle.lists.proofs.Tests.{lt_or_le, same_test as equal-tests, ltb_iff, eqb_iff}
 use Rattle.lists.proofs.Sequences.{sets_append, ticks_snoc, length_ticks}
@@ -20,10 +22,11 @@ use Rattle.lists.specs.Choice.{pick}
 use Rattle.lists.specs.Sequence.{ticks}
 use Rattle.lists.specs.Bits.{bit_at, digit}
 
--- one element more
-pub sets_more : (l s : List ℕ) (at i : ℕ) → i < length s → sets l at (take (i + 1) s) ≡ set (sets l at (take i s)) (at + i) (get_or s i 0)
-sets_more l s at i h =
-    rw (add-one i, take-suc s i 0 h) (sets_append l at (take i s) (get_or s i 0 ∷ []) ∙ rw (length-take-le i s (omega arith)))
+-- a part of the buffer that was copied over
+pub put_part : (xs : List ℕ) {b s : List ℕ} (at : ℕ) → b ≡ s → at + length s ≤ length xs → Put xs at s (put_mid at (at + length s - at) xs b) (at + length s)
+put_part xs {b} {s} at e h =
+    let list = put_mid-paste at (at + length s - at) xs b s (length s) e (omega arith) refl ∙ rw (take-length s) (sym (sets-eq s xs at h)) in
+    record { list = list; place = refl; room = h }
 
 pub put_length : {a b xs : List ℕ} {at n : ℕ} → Put a at xs b n → length b ≡ length a
 put_length {a} {b} {xs} {at} {n} p = ap length p.list ∙ length-sets a at xs

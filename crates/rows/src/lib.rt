@@ -26,7 +26,7 @@ pub fn put_rows(
 ) -> usize
     ensures { Put text.old 0 (fitting name tick words.now count) text.new result }
 {
-    if (count > MAX_ROWS) | (18446744073709551615 - tick < count as u64) {
+    if (count > MAX_ROWS) | (u64::MAX - tick < count as u64) {
         return 0;
     }
     let mut digits = [0u8; 20];
@@ -40,9 +40,9 @@ pub fn put_book(text: &mut [u8; TEXT_BYTES], number: u8, place: u8) -> usize
 {
     let a = put(text, 0, b"book ");
     let b = put_number(text, a, number as u64);
-    let c = put_byte(text, b, 32);
+    let c = put_byte(text, b, b' ');
     let d = put_number(text, c, place as u64);
-    put_byte(text, d, 10)
+    put_byte(text, d, b'\n')
 }
 
 // `bad line N`, where N is the sum of two numbers, which may pass 64 bits.
@@ -51,7 +51,7 @@ pub fn put_bad_line(text: &mut [u8; TEXT_BYTES], before: u64, more: u64) -> usiz
 {
     let a = put(text, 0, b"bad line ");
     let b = put_sum(text, a, before, more);
-    put_byte(text, b, 10)
+    put_byte(text, b, b'\n')
 }
 
 // `feed NUMBER`
@@ -60,7 +60,7 @@ pub fn put_feed(text: &mut [u8; TEXT_BYTES], number: u8) -> usize
 {
     let a = put(text, 0, b"feed ");
     let b = put_number(text, a, number as u64);
-    put_byte(text, b, 10)
+    put_byte(text, b, b'\n')
 }
 
 // ---- pieces of other texts
@@ -97,6 +97,7 @@ fn put_each(out: &mut [u8], name: &[u8], tick: u64, words: &[u64], count: usize)
     let front: &mut [u8] = &mut space;
     let mut k = put_front(front, name, tick);
     let mut at = 0;
+    // i is the number of the verdict and of its tick.
     for i in 0..count {
         let t = tick + i as u64;
         at = put_row(out, at, &front[..k], t, verdict_at(words, i));
@@ -112,10 +113,10 @@ fn put_row(out: &mut [u8], at: usize, front: &[u8], tick: u64, verdict: u8) -> u
     ensures upper_bound { result ≤ at + 32 }
 {
     let a = put(out, at, front);
-    let b = put_byte(out, a, 48 + (tick % 10) as u8);
-    let c = put_byte(out, b, 32);
-    let d = put_byte(out, c, 48 + verdict);
-    put_byte(out, d, 10)
+    let b = put_byte(out, a, b'0' + (tick % 10) as u8);
+    let c = put_byte(out, b, b' ');
+    let d = put_byte(out, c, b'0' + verdict);
+    put_byte(out, d, b'\n')
 }
 
 // The front of the row of a tick, where that of the tick before is there: it changes only with every tenth tick.
@@ -135,7 +136,7 @@ fn put_front(front: &mut [u8], name: &[u8], tick: u64) -> usize
     ensures { Fronted name.now tick front.new result }
 {
     let a = put(front, 0, name);
-    let b = put_byte(front, a, 32);
+    let b = put_byte(front, a, b' ');
     if tick < 10 {
         return b;
     }
@@ -179,7 +180,7 @@ fn put_sum(out: &mut [u8], at: usize, a: u64, b: u64) -> usize
 {
     let low = a % 10 + b % 10;
     let c = put_positive(out, at, a / 10 + b / 10 + low / 10);
-    put_byte(out, c, 48 + (low % 10) as u8)
+    put_byte(out, c, b'0' + (low % 10) as u8)
 }
 
 fn put_byte(out: &mut [u8], at: usize, b: u8) -> usize
@@ -195,10 +196,6 @@ fn put(out: &mut [u8], at: usize, s: &[u8]) -> usize
     requires { at + length s.now ≤ length out.old }
     ensures { Put out.old at s.now out.new result }
 {
-    let mut i = 0;
-    while i < s.len() {
-        out[at + i] = s[i];
-        i += 1;
-    }
-    at + i
+    out[at..at + s.len()].copy_from_slice(s);
+    at + s.len()
 }

@@ -8,12 +8,10 @@ use lib.ListN.{length}
 use Rattle.limits.specs.Limits.{written_bytes}
 use Rattle.table.specs.Sound.{Sound}
 use Rattle.table.specs.declared.Table.{Table}
-use Rattle.book.specs.Writing.{book_of, book_length, writing, written_into}
-use Rattle.book.specs.declared.Writing.{Writing}
+use Rattle.book.specs.Writing.{Writing, book_of, book_length, writing, written_into}
 use Rattle.book.proofs.Writes.{length_book}
 use Rattle.book.proofs.Back.{relied, into_is, length_is}
-use Rattle.text.specs.Typing.{typed}
-use Rattle.text.specs.declared.Typed.{Typed}
+use Rattle.text.specs.Typing.{Typed, typed}
 use Rattle.text.proofs.Sounds.{typed_sound}
 use Rattle.rows.specs.Rows.{Put}
 use Rattle.rows.proofs.Laws.{put_nothing, put_start}

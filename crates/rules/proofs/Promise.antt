@@ -17,8 +17,7 @@ use Rattle.book.specs.Writing.{book_of, book_length}
 use Rattle.book.proofs.Writes.{length_book}
 use Rattle.book.proofs.Complete.{sound_reads}
 use Rattle.grammar.specs.Grammar.{Fault32, Fault33}
-use Rattle.text.specs.declared.Typed.{Typed}
-use Rattle.text.specs.Typing.{typed}
+use Rattle.text.specs.Typing.{Typed, typed}
 use Rattle.text.specs.Outcome.{Reached, line_faults, Outcome, empty, byte, deep, faulty, whole}
 use Rattle.text.proofs.Outcomes.{outcome}
 use Rattle.text.proofs.Numbers.{line_answer, numbers}

@@ -36,19 +36,19 @@ fn compile(
             message_bytes: used,
         };
     }
-    let typed = text::read(text);
-    if typed.number != 0 {
-        let used = message::put_refusal(message, text, typed.number, typed.place);
-        return Compiled {
-            book_bytes: 0,
-            message_bytes: used,
-        };
-    }
-    let table = typed.table;
-    let w = book::write(table, book);
-    Compiled {
-        book_bytes: w.length,
-        message_bytes: 0,
+    match text::read(text) {
+        Ok(table) => Compiled {
+            book_bytes: book::write(table, book).unwrap_or(0),
+            message_bytes: 0,
+        },
+        Err(fault) => {
+            let number = fault.refusal.number();
+            let used = message::put_refusal(message, text, number, fault.place);
+            Compiled {
+                book_bytes: 0,
+                message_bytes: used,
+            }
+        }
     }
 }
 
@@ -66,6 +66,7 @@ fn load<R: Read>(input: &mut R, text: &mut [u8]) -> io::Result<usize>
     ensures end { IfOk result (λ n. n < length text.new → IsAtEnd (R.remaining input.new)) }
 {
     let mut at = 0;
+    // How many bytes a read gives, it tells.
     while at < text.len() {
         let n = input.read(&mut text[at..])?;
         if n == 0 {

@@ -2,8 +2,6 @@
 pub mod Rotation
 -- the search as the code makes it
 mod Search
--- the numbers of the calls, as the code computes them
-mod Numbers
 -- what is known where no row of refusals fits
 pub mod Fits
 -- what the parts of the calls answer, put together

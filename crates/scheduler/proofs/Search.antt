@@ -3,76 +3,68 @@ use Prim.Native.Nat.{ℕ, zero, suc, ◌+◌, ◌-◌, ◌≤◌, ◌<◌}
 use native.Mathlib.Omega.{arith}
 use mathlib.Core.Path.{◌≡◌, refl, sym, ap, ◌∙◌}
 use mathlib.Core.Logic.{⊎_elim}
-use mathlib.Core.Bool.{Bool, true, false, false≢true}
-use mathlib.Core.List.{List}
+use mathlib.Core.Bool.{Bool, true, false, cond}
+use mathlib.Core.List.{List, [], ◌∷◌, ◌++◌}
 use borrow.Author.Tests.{lt-ltb, le-ltb}
 use lib.Dec.{ltb}
-use lib.ListN.{length, get_or-eq_default}
-use Rattle.limits.specs.Limits.{max_list}
+use lib.ListN.{length, get_or, length-append, get_or-append}
+use Rattle.std.specs.List.{range_with_len, find}
+use Rattle.std.specs.Prelude.{Option, Some}
+use Rattle.std.specs.Option.{unwrap_or}
+use Rattle.std.proofs.lemmas.List.{get_or-append_right}
+use Rattle.std.proofs.lemmas.List.FromFn.{length-range_with_len, get_or-range_with_len}
 use Rattle.lists.specs.Choice.{pick}
-use Rattle.lists.proofs.Tests.{lt_or_le}
-use Rattle.records.specs.declared.Record.{Record}
-use Rattle.records.specs.Records.{no_record}
-use Rattle.scheduler.specs.Rotation.{least, start_of, stepped, waits_at, passed, next}
-use Rattle.scheduler.specs.Work.{next_place}
-use Rattle.scheduler.proofs.Rotation.{least_le, least_holds, start_le, stepped_lt}
+use Rattle.lists.proofs.Tests.{lt_or_le, same_test, ltb_iff}
+use Rattle.scheduler.specs.Rotation.{least, start_of, stepped, passed, next}
+use Rattle.scheduler.proofs.Rotation.{start_le, stepped_lt}
 
--- by cases
-pub start_yes : (n from : ℕ) → from < n → from + 1 ≡ start_of n from
-start_yes n from h = rw (lt-ltb from n h)
+ltb_suc : (l n : ℕ) → ltb (suc l) (suc n) ≡ ltb l n
+ltb_suc l n = same_test _ _ (ltb_iff (suc l) (suc n)) (ltb_iff l n) (λ k. omega arith) (λ k. omega arith)
 
-pub start_no : (n from : ℕ) → n ≤ from → 0 ≡ start_of n from
-start_no n from h = rw (le-ltb from n h)
+-- the first passes, or the search goes on
+here_or_later : (x : ℕ) (rest : Option ℕ) (g : ℕ → ℕ) (l n d : ℕ) → x ≡ g 0 → unwrap_or rest d ≡ pick (ltb l n) (g (suc l)) d
+    → (b : Bool) → unwrap_or (cond b (Some x) rest) d ≡ pick (ltb (pick b 0 (suc l)) (suc n)) (g (pick b 0 (suc l))) d
+here_or_later x rest g l n d p more true = p ∙ ap (λ (b : Bool). pick b (g 0) d) (sym (lt-ltb 0 (suc n) (omega arith)))
+here_or_later x rest g l n d p more false = more ∙ ap (λ (b : Bool). pick b (g (suc l)) d) (sym (ltb_suc l n))
 
-pub step_yes : (n start j : ℕ) → start + j < n → start + j ≡ stepped n start j
-step_yes n start j h = rw (lt-ltb (start + j) n h)
+-- the first of a list that passes, by the places of the list
+found_in : (f : ℕ → Bool) (g : ℕ → ℕ) (xs : List ℕ) (d : ℕ) → ((j : ℕ) → j < length xs → get_or xs j 0 ≡ g j)
+    → unwrap_or (find f xs) d ≡ pick (ltb (least (λ j. f (g j)) (length xs)) (length xs)) (g (least (λ j. f (g j)) (length xs))) d
+unfolding least
+found_in f g [] d e = refl
+found_in f g (x ∷ xs) d e =
+    let more = found_in f (λ j. g (suc j)) xs d (λ j h. e (suc j) (omega arith)) in
+    let l : ℕ = least (λ j. f (g (suc j))) (length xs) in
+    let p : x ≡ g 0 = e 0 (omega arith) in
+    let go : (b : Bool) → unwrap_or (cond b (Some x) (find f xs)) d ≡ pick (ltb (pick b 0 (suc l)) (suc (length xs))) (g (pick b 0 (suc l))) d =
+    here_or_later x (find f xs) g l (length xs) d p more in
+    go (f x) ∙ ap (λ (y : ℕ). pick (ltb (pick (f y) 0 (suc l)) (suc (length xs))) (g (pick (f y) 0 (suc l))) d) p
 
-pub step_no : (n start j : ℕ) → n ≤ start + j → start + j - n ≡ stepped n start j
-step_no n start j h = rw (le-ltb (start + j) n h)
+-- the places in their order: from the start on, and then those before it
+abbrev pub places : ℕ → ℕ → List ℕ
+places n start = range_with_len start (n - start) ++ range_with_len 0 start
 
-pub waits_past : (rs : List Record) (i : ℕ) → length rs ≡ max_list → max_list ≤ i → false ≡ waits_at rs i
-waits_past rs i l h = ap (λ (r : Record). ltb 0 r.waiting) (sym (get_or-eq_default rs no_record (omega arith)))
+places_long : (n start : ℕ) → start ≤ n → length (places n start) ≡ n
+places_long n start h =
+    simp (length-append, length-range_with_len) (omega arith)
 
--- a search that has passed j places by
-module _ (f : ℕ → Bool) (n from : ℕ) where
-  pub found_here : (j : ℕ) → j < n → j ≤ passed f n from → f (stepped n (start_of n from) j) ≡ true → stepped n (start_of n from) j ≡ next f n from
-  unfolding passed next
-  found_here j h l t =
-      let e : passed f n from ≡ j = omega (arith, least_le (λ k. f (stepped n (start_of n from) k)) n j h t) in
-      let b : ltb (passed f n from) n ≡ true = lt-ltb (passed f n from) n (omega arith) in
-      rw b (ap (λ (k : ℕ). stepped n (start_of n from) k) (sym e))
+place_at : (n start j : ℕ) → start ≤ n → j < n → get_or (places n start) j 0 ≡ stepped n start j
+place_at n start j h l =
+    ⊎_elim
+    (λ (k : start + j < n).
+    get_or-append (range_with_len start (n - start)) (range_with_len 0 start) 0 j (omega (arith, length-range_with_len start (n - start)))
+    ∙ get_or-range_with_len start (n - start) j 0 (omega arith) ∙ rw (lt-ltb (start + j) n k))
+    (λ (k : n ≤ start + j).
+    get_or-append_right (range_with_len start (n - start)) (range_with_len 0 start) (n - start) j 0 (length-range_with_len start (n - start)) (omega arith)
+    ∙ get_or-range_with_len 0 start (j - (n - start)) 0 (omega arith) ∙ rw (le-ltb (start + j) n k) (omega arith))
+    (lt_or_le (start + j) n)
 
-  pub not_here : (j : ℕ) → j < n → j ≤ passed f n from → f (stepped n (start_of n from) j) ≡ false → j + 1 ≤ passed f n from
-  unfolding passed
-  not_here j h l t =
-      ⊎_elim (λ (k : j < passed f n from). omega arith)
-      (λ (k : passed f n from ≤ j). let e : passed f n from ≡ j = omega arith in
-      absurd (false≢true (sym t ∙ ap (λ (i : ℕ). f (stepped n (start_of n from) i)) (sym e) ∙ least_holds (λ i. f (stepped n (start_of n from) i)) n (omega arith))))
-      (lt_or_le j (passed f n from))
-
-  pub nowhere : n ≤ passed f n from → n ≡ next f n from
-  unfolding next
-  nowhere h = rw (le-ltb (passed f n from) n h)
-
--- the same by what the callees answered: the start, the place and the test
-pub start_bound : (s n from : ℕ) → s ≡ start_of n from → s ≤ n
-start_bound s n from e = rw e (start_le n from)
-
-pub returned : (f : ℕ → Bool) (n from s j p : ℕ) (b : Bool) → s ≡ start_of n from → p ≡ stepped n s j → b ≡ f p → b ≡ true → j < n → j ≤ passed f n from → p ≡ next f n from
-returned f n from s j p b es ep eb t h l =
-    let q : p ≡ stepped n (start_of n from) j = ep ∙ ap (λ (k : ℕ). stepped n k j) es in
-    q ∙ found_here f n from j h l (ap f (sym q) ∙ sym eb ∙ t)
-
-pub went_on : (f : ℕ → Bool) (n from s j p : ℕ) (b : Bool) → s ≡ start_of n from → p ≡ stepped n s j → b ≡ f p → b ≡ false → j < n → j ≤ passed f n from → j + 1 ≤ passed f n from
-went_on f n from s j p b es ep eb t h l =
-    let q : p ≡ stepped n (start_of n from) j = ep ∙ ap (λ (k : ℕ). stepped n k j) es in
-    not_here f n from j h l (ap f (sym q) ∙ sym eb ∙ t)
-
-pub place_many : (rs : List Record) (n from : ℕ) → max_list < n → n ≡ next_place rs n from
-place_many rs n from h = rw (lt-ltb max_list n h)
-
-pub place_few : (rs : List Record) (n from p : ℕ) → n ≤ max_list → p ≡ next (waits_at rs) n from → p ≡ next_place rs n from
-place_few rs n from p h e = rw (le-ltb max_list n h) e
+pub found_next : (f : ℕ → Bool) (n from : ℕ) → unwrap_or (find f (places n (start_of n from))) n ≡ next f n from
+unfolding passed next
+found_next f n from =
+    let s = start_of n from in
+    let l : length (places n s) ≡ n = places_long n s (start_le n from) in
+    found_in f (stepped n s) (places n s) n (λ j h. place_at n s j (start_le n from) (omega arith)) ∙ rw l
 
 -- ---- a search looks only at the n places
 least_ext : (f g : ℕ → Bool) (m : ℕ) → ((j : ℕ) → j < m → f j ≡ g j) → least f m ≡ least g m

@@ -59,7 +59,7 @@ two_tests false b rest = refl
 
 -- ---- a change of the list
 -- past its end nothing changes
-unchanged_is : (rs : List Record) → applied rs (unchanged (length rs)) ≡ rs
+pub unchanged_is : (rs : List Record) → applied rs (unchanged (length rs)) ≡ rs
 unchanged_is rs =
     ap (λ (ys : List Record). with_waiting ys (length rs) 0) (set_out rs (length rs) (seen_as (record_at rs (length rs)) 0) (omega arith))
     ∙ set_out rs (length rs) (waiting_as (record_at rs (length rs)) 0) (omega arith)

@@ -1,22 +1,21 @@
 -- What the calls answer for what one pass over the list has found, what the list gets, and what they leave in the buffers. That this is what
 -- specs/Scheduler says of the list is whole_left, whole_turned and whole_closed in proofs/Whole.
-use Rattle.std.specs.Prelude.{ℕ, ◌+◌, ◌*◌, ◌≤◌, ◌<◌, ◌≡◌, Bool, true, false, ◌||◌, ◌&&◌, List, length, ltb, leb, eqb}
+use Rattle.std.specs.Prelude.{ℕ, ◌+◌, ◌*◌, ◌≤◌, ◌<◌, ◌≡◌, Bool, true, false, ◌||◌, ◌&&◌, List, length, ltb, leb, eqb, Option, Some, None, Result, Ok, Err}
 use Rattle.limits.specs.Limits.{max_list, max_block, history_words, waiting_words}
 use Rattle.refusals.specs.Numbers.{UNSOUND}
+use Rattle.refusals.specs.Refusals.{number_of}
+use Rattle.refusals.specs.declared.Refusal.{Refusal}
 use Rattle.lists.specs.Choice.{pick, first}
 use Rattle.table.specs.declared.Table.{Table}
 use Rattle.table.specs.Sound.{is_sound}
 use Rattle.verdict.specs.Verdict.{cleared}
-use Rattle.session.specs.declared.Answer.{Answer}
-use Rattle.session.specs.declared.Step.{Step}
-use Rattle.session.specs.Session.{Effect, StepEffect, step_effect, feeding, closing}
+use Rattle.session.specs.Session.{Step, Answer, Effect, StepEffect, step_effect, feeding, closing}
 use Rattle.records.specs.declared.Record.{Record}
 use Rattle.records.specs.declared.Summary.{Summary}
 use Rattle.records.specs.declared.Change.{Change}
 use Rattle.records.specs.Records.{record_at}
-use Rattle.scheduler.specs.declared.Leaving.{Leaving}
-use Rattle.scheduler.specs.declared.Turning.{Turning}
-use Rattle.scheduler.specs.declared.Closing.{Closing}
+use Rattle.scheduler.specs.declared.Served.{Served}
+use Rattle.scheduler.specs.declared.Closed.{Closed}
 use Rattle.scheduler.specs.Rotation.{waits_at, next}
 use Rattle.scheduler.specs.Scheduler.{part_of, pasted, session_of, block_of, leave_rows, turn_rows, close_rows}
 
@@ -36,7 +35,16 @@ told_of t n = pick (is_sound t) n UNSOUND
 abbrev pub unchanged : ℕ → Change
 unchanged n = record { place = n; seen = 0; waiting = 0 }
 
--- ---- leaving a block
+-- ---- leaving a block: the number of a refusal or 0, and what the list gets
+pub record Leaving : Type 0 where
+  pub number : ℕ
+  pub change : Change
+
+-- what an answer of the code over n records says
+abbrev pub leaving_told : ℕ → Result Change Refusal → Leaving
+leaving_told n (Ok c) = record { number = 0; change = c }
+leaving_told n (Err e) = record { number = number_of e; change = unchanged n }
+
 pub record Stored : Type 0 where
   pub done : Leaving
   pub waiting : List ℕ
@@ -51,7 +59,15 @@ leave_work t s i block w =
     (record { done = record { number = 0; change = record { place = i; seen = (record_at s.records i).seen; waiting = length block } }; waiting = pasted (waiting_words * i) block w })
     (record { done = record { number = n; change = unchanged s.count }; waiting = w })
 
--- ---- a turn
+-- ---- a turn: the number of a refusal or 0, whether a record was served, the place to hand to the next turn, the count of verdicts, and what
+-- the list gets
+pub record Turning : Type 0 where
+  pub number : ℕ
+  pub served : Bool
+  pub place : ℕ
+  pub count : ℕ
+  pub change : Change
+
 pub record Serving : Type 0 where
   pub done : Turning
   pub history : List ℕ
@@ -60,6 +76,12 @@ pub record Serving : Type 0 where
 
 abbrev pub not_served : ℕ → ℕ → ℕ → Turning
 not_served number from n = record { number = number; served = false; place = from; count = 0; change = unchanged n }
+
+-- what an answer of the code to a turn from a place over n records says
+abbrev pub turning_told : ℕ → ℕ → Result (Option Served) Refusal → Turning
+turning_told from n (Ok (Some k)) = record { number = 0; served = true; place = k.place; count = k.count; change = k.change }
+turning_told from n (Ok None) = not_served 0 from n
+turning_told from n (Err e) = not_served (number_of e) from n
 
 -- the session of record r, at place p, is fed the block that waits
 abbrev pub fed_in : Table → Record → ℕ → List ℕ → List ℕ → List ℕ → List ℕ → StepEffect
@@ -92,7 +114,12 @@ turn_work t s from h w x o =
     (pick (ltb p s.count) (serve_work t r p from s.count h w x o) (idle_work t from s.count h x o))
     (record { done = not_served (told_of t n) from s.count; history = h; scratch = x; out = o })
 
--- ---- a close
+-- ---- a close: the number of a refusal or 0, the count of verdicts, and what the list gets
+pub record Closing : Type 0 where
+  pub number : ℕ
+  pub count : ℕ
+  pub change : Change
+
 pub record Ending : Type 0 where
   pub done : Closing
   pub scratch : List ℕ
@@ -100,6 +127,11 @@ pub record Ending : Type 0 where
 
 abbrev pub not_closed : ℕ → ℕ → Closing
 not_closed number n = record { number = number; count = 0; change = unchanged n }
+
+-- what an answer of the code over n records says
+abbrev pub closing_told : ℕ → Result Closed Refusal → Closing
+closing_told n (Ok k) = record { number = 0; count = k.count; change = k.change }
+closing_told n (Err e) = not_closed (number_of e) n
 
 -- the session of record r, at place i, is closed
 abbrev pub closed_in : Table → Record → ℕ → List ℕ → List ℕ → List ℕ → Effect

@@ -10,36 +10,37 @@ use lib.Dec.{ltb, leb, eqb}
 use lib.ListN.{length, take, drop, replicate, length-append, length-take, length-drop}
 use lib.Seq.{take_at, drop_at, drop-drop}
 use Rattle.limits.specs.Limits.{max_seen}
+use Rattle.std.specs.Prelude.{Ok, Err}
+use Rattle.refusals.specs.Refusals.{number_of}
+use Rattle.refusals.specs.declared.Refusal.{Refusal}
+use Rattle.refusals.proofs.Positive.{refuses}
 use Rattle.lists.specs.Choice.{pick, first}
 use Rattle.lists.specs.Sequence.{padded}
 use Rattle.lists.proofs.Rows.{no_row}
 use Rattle.lists.proofs.Tests.{same_test, ltb_iff, or_left, or_right}
 use Rattle.mltl.specs.Mltl.{delay}
 use Rattle.table.specs.declared.Table.{Table}
-use Rattle.table.specs.declared.RuleDelay.{RuleDelay}
 use Rattle.table.specs.Nodes.{formula_at, rule_at, wait_of}
-use Rattle.table.specs.Sound.{SoundBy, is_sound_by, delay_number_by, rule_delay_by, delay_number, rule_delay}
+use Rattle.table.specs.Sound.{RuleDelay, delay_told, SoundBy, is_sound_by, delay_number_by, rule_delay_by, delay_number, rule_delay}
 use Rattle.table.proofs.Soundness.{wait_sound_iff, sound_now, watched_short}
 use Rattle.verdict.specs.Verdict.{with_verdicts, cleared, ready, Judged}
 use Rattle.verdict.proofs.Answers.{ready_sound}
 use Rattle.session.specs.declared.Session.{Session}
-use Rattle.session.specs.declared.Opening.{Opening}
-use Rattle.session.specs.Session.{Effect, formula_of, delay_of, no_session, opening_by, opening, refused, unfit_by, with_seen, verdict_words, feed_rows, feed_number_by, fed, feeding_by, feeding, close_rows, close_number_by, closed, closing_by}
+use Rattle.session.specs.Session.{Opening, Effect, formula_of, delay_of, opening_told, opening_by, opening, refused, unfit_by, with_seen, verdict_words, feed_rows, feed_number_by, fed, feeding_by, feeding, close_rows, close_number_by, closed, closing_by}
 use Rattle.session.specs.Code.Steps.{Writable, Fit, Feedable, Closable}
 
 -- ---- open
-module _ (t : Table) (r : ℕ) {d : RuleDelay} (e : d ≡ rule_delay t r) where
-  pub open_refused : {s : Session} → (d.number ≡ 0 → ⊥) → s ≡ no_session → ◌≡◌ {A = Opening} (record { number = d.number; session = s }) (opening t r)
+module _ (t : Table) (r : ℕ) where
+  pub open_refused : (e : Refusal) → delay_told (Err e) ≡ rule_delay t r → opening_told (Err e) ≡ opening t r
   unfolding opening_by rule_delay_by
-  open_refused n p =
-      let q : d.number ≡ delay_number t r = ap (λ (x : RuleDelay). x.number) e in
-      let z : eqb (delay_number t r) 0 ≡ false = ne_eqb (delay_number t r) 0 (λ k. n (q ∙ k)) in
-      rw (q, p, z)
+  open_refused e p =
+      let q : number_of e ≡ delay_number t r = ap (λ (x : RuleDelay). x.number) p in
+      rw (← q, refuses e)
 
-  pub open_accepted : d.number ≡ 0 → ◌≡◌ {A = Opening} (record { number = 0; session = record { table = t; rule = r; seen = 0 } }) (opening t r)
+  pub open_accepted : {d : ℕ} → delay_told (Ok d) ≡ rule_delay t r → opening_told (Ok (record { table = t; rule = r; seen = 0 })) ≡ opening t r
   unfolding opening_by rule_delay_by
-  open_accepted n =
-      let q : delay_number t r ≡ 0 = sym (ap (λ (x : RuleDelay). x.number) e) ∙ n in
+  open_accepted p =
+      let q : delay_number t r ≡ 0 = sym (ap (λ (x : RuleDelay). x.number) p) in
       rw q
 
 -- ---- the numbers
@@ -87,25 +88,45 @@ module _ (old : Bool) where
         let f = fit_sound s u in
         record { sound = sound_now old s.table f.0; rule = f.1; short = omega (arith, delay_is u, unfit_short s u); history_fits = p; scratch_fits = q }
 
-  -- ---- a close that is refused, and one that is accepted, by its number
-  module _ (s : Session) (h x o : List ℕ) {n : ℕ} (e : n ≡ close_number_by (wait_of old) s (length h) (length x) (length o)) where
-    pub closed_refused : (n ≡ 0 → ⊥) → refused n s h x o ≡ closing_by (wait_of old) s h x o
-    unfolding closing_by
-    closed_refused r = rw (← e, ne_eqb n 0 r)
+  -- by the delay's answer
+  pub unfit_told : (s : Session) (e : Refusal) → delay_told (Err e) ≡ rule_delay_by (wait_of old) s.table s.rule → unfit_by (wait_of old) s ≡ true
+  unfit_told s e p = sym (unfit_is s p) ∙ rw (refuses e)
 
-    pub closed_accepted : {z : Effect} {d : ℕ} → n ≡ 0 → d ≡ wait_of old (formula_of s) → z ≡ closed d s h x o → z ≡ closing_by (wait_of old) s h x o
+  pub fit_told : (s : Session) {d : ℕ} → delay_told (Ok d) ≡ rule_delay_by (wait_of old) s.table s.rule → unfit_by (wait_of old) s ≡ false
+  fit_told s p = sym (unfit_is s p)
+
+  -- ---- a close that is refused, and one that is accepted
+  module _ (s : Session) (h x o : List ℕ) where
+    pub closed_refused : (e : Refusal) → number_of e ≡ close_number_by (wait_of old) s (length h) (length x) (length o)
+        → refused (number_of e) s h x o ≡ closing_by (wait_of old) s h x o
     unfolding closing_by
-    closed_accepted r q p = rw (← e, eq-eqb n 0 r, ← q) p
+    closed_refused e n = rw (← n, refuses e)
+
+    -- the rows of a session that is not unfit
+    pub close_number_is : unfit_by (wait_of old) s ≡ false → {n : ℕ} → n ≡ first (close_rows false (length h) (length x) (length o))
+        → n ≡ close_number_by (wait_of old) s (length h) (length x) (length o)
+    close_number_is u e = rw u e
+
+    pub closed_accepted : {z : Effect} {d : ℕ} → 0 ≡ close_number_by (wait_of old) s (length h) (length x) (length o) → d ≡ wait_of old (formula_of s)
+        → z ≡ closed d s h x o → z ≡ closing_by (wait_of old) s h x o
+    unfolding closing_by
+    closed_accepted n q p = rw (← n, ← q) p
 
 -- ---- a feed likewise
-module _ (s : Session) (block h x o : List ℕ) {n : ℕ} (e : n ≡ feed_number_by delay max_seen s (length block) (length h) (length x) (length o)) where
-  pub fed_refused : (n ≡ 0 → ⊥) → refused n s h x o ≡ feeding s block h x o
+module _ (s : Session) (block h x o : List ℕ) where
+  pub fed_refused : (e : Refusal) → number_of e ≡ feed_number_by delay max_seen s (length block) (length h) (length x) (length o)
+      → refused (number_of e) s h x o ≡ feeding s block h x o
   unfolding feeding_by
-  fed_refused r = rw (← e, ne_eqb n 0 r)
+  fed_refused e n = rw (← n, refuses e)
 
-  pub fed_accepted : {z : Effect} {d : ℕ} → n ≡ 0 → d ≡ delay_of s → z ≡ fed d s block h x o → z ≡ feeding s block h x o
+  pub feed_number_is : unfit_by delay s ≡ false → {n : ℕ} → n ≡ first (feed_rows max_seen false s.seen (length block) (length h) (length x) (length o))
+      → n ≡ feed_number_by delay max_seen s (length block) (length h) (length x) (length o)
+  feed_number_is u e = rw u e
+
+  pub fed_accepted : {z : Effect} {d : ℕ} → 0 ≡ feed_number_by delay max_seen s (length block) (length h) (length x) (length o) → d ≡ delay_of s
+      → z ≡ fed d s block h x o → z ≡ feeding s block h x o
   unfolding feeding_by
-  fed_accepted r q p = rw (← e, eq-eqb n 0 r, ← q) p
+  fed_accepted n q p = rw (← n, ← q) p
 
 -- what the number 0 says
 pub record FeedFits (limit : ℕ) (bad : Bool) (seen k h x o : ℕ) : Type 0 where

@@ -6,8 +6,7 @@ use lib.ListN.{length}
 use Rattle.limits.specs.Limits.{max_seen}
 use Rattle.mltl.specs.Mltl.{delay}
 use Rattle.session.specs.declared.Session.{Session}
-use Rattle.session.specs.declared.Step.{Step}
-use Rattle.session.specs.Session.{Effect, StepEffect, step_effect, unfit, with_seen, feeding}
+use Rattle.session.specs.Session.{Step, Effect, StepEffect, step_effect, unfit, with_seen, feeding}
 use Rattle.session.proofs.Effects.{feed_accepted, feed_refused_lem}
 use Rattle.session.proofs.Answers.{feed_fits}
 

@@ -1,7 +1,9 @@
 -- What open, feed, close and the second close answer, and what they leave in the buffers that they were lent (document 01, Session; A4, A5).
-use Rattle.std.specs.Prelude.{ℕ, ◌+◌, ◌-◌, min, Bool, ◌||◌, not, List, [], ◌∷◌, ◌++◌, length, take, drop, ltb, leb, eqb}
+use Rattle.std.specs.Prelude.{ℕ, ◌+◌, ◌-◌, min, Bool, ◌||◌, not, List, [], ◌∷◌, ◌++◌, length, take, drop, ltb, leb, eqb, Result, Ok, Err}
 use Rattle.limits.specs.Limits.{max_block, max_seen, history_words, scratch_words, feed_words, close_words}
 use Rattle.refusals.specs.Numbers.{UNSOUND, STATES, BUFFER, SEEN}
+use Rattle.refusals.specs.Refusals.{number_of}
+use Rattle.refusals.specs.declared.Refusal.{Refusal}
 use Rattle.lists.specs.Choice.{Row, pick, ◌if◌, first}
 use Rattle.lists.specs.Sequence.{padded, last_of}
 use Rattle.lists.specs.Bits.{packed}
@@ -11,9 +13,7 @@ use Rattle.table.specs.Sound.{is_sound_by, delay_number_by}
 use Rattle.table.specs.declared.Table.{Table}
 use Rattle.verdict.specs.Verdict.{cleared}
 use Rattle.session.specs.declared.Session.{Session}
-use Rattle.session.specs.declared.Opening.{Opening}
-use Rattle.session.specs.declared.Answer.{Answer}
-use Rattle.session.specs.declared.Step.{Step}
+use Rattle.session.specs.declared.Given.{Given}
 
 -- ---- the session
 abbrev pub session_with : Table → ℕ → ℕ → Session
@@ -33,6 +33,35 @@ formula_of s = watched_formula s.table s.rule
 -- with another count of states
 abbrev pub with_seen : Session → ℕ → Session
 with_seen s n = session_with s.table s.rule n
+
+-- ---- what a call answers: the number of the refusal or 0, and the session that open gives, or 'no session'
+pub record Opening : Type 0 where
+  pub number : ℕ
+  pub session : Session
+
+-- the count of verdicts that a feed or a close gives, and the session handed back
+pub record Answer : Type 0 where
+  pub number : ℕ
+  pub count : ℕ
+  pub session : Session
+
+-- the same without the session
+pub record Step : Type 0 where
+  pub number : ℕ
+  pub count : ℕ
+
+-- what an answer of the code says; a refused call hands the session s back as it came
+abbrev pub opening_told : Result Session Refusal → Opening
+opening_told (Ok s) = record { number = 0; session = s }
+opening_told (Err e) = record { number = number_of e; session = no_session }
+
+abbrev pub answer_told : Session → Result Given Refusal → Answer
+answer_told s (Ok g) = record { number = 0; count = g.count; session = g.session }
+answer_told s (Err e) = record { number = number_of e; count = 0; session = s }
+
+abbrev pub step_told : Result ℕ Refusal → Step
+step_told (Ok n) = record { number = 0; count = n }
+step_told (Err e) = record { number = number_of e; count = 0 }
 
 -- ---- what a call answers, and what it leaves in history, scratch and out
 pub record Effect : Type 0 where

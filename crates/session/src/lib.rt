@@ -1,15 +1,17 @@
 // Sessions: states come in blocks, and verdicts are given as soon as they are settled.
 #![tactic(auto)]
 
-ghost use Rattle.std.specs.Prelude.{◌≡◌, ◌++◌, ◌+◌, ◌-◌, ◌≤◌, length, take, drop};
+ghost use Rattle.std.specs.Prelude.{false, ◌≡◌, ◌++◌, ◌+◌, ◌-◌, ◌≤◌, length, take, drop};
 ghost use Rattle.limits.specs.Limits.{max_block, max_seen};
+ghost use Rattle.refusals.specs.Refusals.{number};
 ghost use Rattle.lists.specs.Choice.{first};
 ghost use Rattle.table.specs.Nodes.{formula_at, wait_of};
 ghost use Rattle.verdict.specs.Verdict.{cleared};
-ghost use Rattle.session.specs.Session.{session_with, no_session, with_seen, verdict_words, opening, feed_rows, fed, feeding, step_effect, close_rows, closed, closing_by, closing, closing_old};
+ghost use Rattle.session.specs.Session.{session_with, no_session, verdict_words, opening_told, opening, feed_rows, answer_told, step_told, fed, feeding, step_effect, close_rows, closed, closing_by, closing, closing_old};
 ghost use Rattle.session.specs.Code.Steps.{Writable, Feedable, Closable};
 
 use limits::{CLOSE_WORDS, FEED_WORDS, HISTORY_WORDS, MAX_BLOCK, MAX_SEEN, SCRATCH_WORDS};
+use refusals::Refusal;
 use table::Table;
 
 // Document 01's term: a table, the number of the rule that is watched, and how many states it has seen.
@@ -20,26 +22,11 @@ pub struct Session {
     pub seen: u64,
 }
 
-// The number of a refusal or 0, and the session that is given, or 'no session'.
+// What an accepted feed or close gives: the count of verdicts, and the session handed back.
 #[derive(Clone, Copy)]
-pub struct Opening {
-    pub number: u8,
-    pub session: Session,
-}
-
-// The number of a refusal or 0, the count of verdicts, and the session handed back.
-#[derive(Clone, Copy)]
-pub struct Answer {
-    pub number: u8,
+pub struct Given {
     pub count: usize,
     pub session: Session,
-}
-
-// The same without a session.
-#[derive(Clone, Copy)]
-pub struct Step {
-    pub number: u8,
-    pub count: usize,
 }
 
 impl Session {
@@ -49,21 +36,12 @@ impl Session {
         Session { table, rule, seen }
     }
 
-    // A session over a sound table, that watches one of its rules; otherwise the number of the refusal and 'no session'.
-    pub fn open(table: Table, rule: usize) -> Opening
-        ensures { result ≡ opening table rule }
+    // A session over a sound table, that watches one of its rules.
+    pub fn open(table: Table, rule: usize) -> Result<Session, Refusal>
+        ensures { opening_told result ≡ opening table rule }
     {
-        let d = table::delay(table, rule);
-        if d.number != 0 {
-            return Opening {
-                number: d.number,
-                session: no_session(),
-            };
-        }
-        Opening {
-            number: 0,
-            session: Session::with(table, rule, 0),
-        }
+        table::delay(table, rule)?;
+        Ok(Session::with(table, rule, 0))
     }
 
     // The verdicts that a block of states settles, in the first 16 words of out.
@@ -73,37 +51,39 @@ impl Session {
         history: &mut [u32],
         scratch: &mut [u64],
         out: &mut [u64],
-    ) -> Answer
-        ensures { record { answer = result; history = history.new; scratch = scratch.new; out = out.new } ≡ feeding self block.now history.old scratch.old out.old }
+    ) -> Result<Given, Refusal>
+        ensures { record { answer = answer_told self result; history = history.new; scratch = scratch.new; out = out.new } ≡ feeding self block.now history.old scratch.old out.old }
     {
-        let k = feed_rule(
+        let count = feed_rule(
             self.table, self.rule, self.seen, block, history, scratch, out,
-        );
-        if k.number != 0 {
-            return Answer {
-                number: k.number,
-                count: k.count,
-                session: self,
-            };
-        }
-        let session = with_seen(self, self.seen + block.len() as u64);
-        Answer {
-            number: k.number,
-            count: k.count,
-            session,
-        }
+        )?;
+        let seen = self.seen + block.len() as u64;
+        Ok(Given {
+            count,
+            session: Session { seen, ..self },
+        })
     }
 
     // The verdicts of the states that history still holds, in the first 64 words of out.
-    pub fn close(self, history: &[u32], scratch: &mut [u64], out: &mut [u64]) -> Answer
-        ensures { record { answer = result; history = history.now; scratch = scratch.new; out = out.new } ≡ closing self history.now scratch.old out.old }
+    pub fn close(
+        self,
+        history: &[u32],
+        scratch: &mut [u64],
+        out: &mut [u64],
+    ) -> Result<Given, Refusal>
+        ensures { record { answer = answer_told self result; history = history.now; scratch = scratch.new; out = out.new } ≡ closing self history.now scratch.old out.old }
     {
         close_under(false, self, history, scratch, out)
     }
 
     // The same for a session that was opened and fed under the delay before A5.
-    pub fn close_old(self, history: &[u32], scratch: &mut [u64], out: &mut [u64]) -> Answer
-        ensures { record { answer = result; history = history.now; scratch = scratch.new; out = out.new } ≡ closing_old self history.now scratch.old out.old }
+    pub fn close_old(
+        self,
+        history: &[u32],
+        scratch: &mut [u64],
+        out: &mut [u64],
+    ) -> Result<Given, Refusal>
+        ensures { record { answer = answer_told self result; history = history.now; scratch = scratch.new; out = out.new } ≡ closing_old self history.now scratch.old out.old }
     {
         close_under(true, self, history, scratch, out)
     }
@@ -116,55 +96,15 @@ pub fn no_session() -> Session
     Session::with(table::no_table(), 0, 0)
 }
 
-// With another count of states seen.
-fn with_seen(s: Session, seen: u64) -> Session
-    ensures { result ≡ with_seen s seen }
-{
-    Session::with(s.table, s.rule, seen)
-}
-
-// The m states from place `by` on go to the first places.
-fn shift_by(s: &mut [u32], by: usize, m: usize)
-    requires { by + m ≤ length s.old }
-    ensures { s.new ≡ take m (drop by s.old) ++ drop m s.old }
-{
-    for j in 0..m {
-        let x = s[by + j];
-        s[j] = x;
-    }
-}
-
-// The same from behind a whole block on: by a number that it knows, the compiler moves all at once.
-fn shift_block(s: &mut [u32], m: usize)
-    requires { max_block + m ≤ length s.old }
-    ensures { s.new ≡ take m (drop max_block s.old) ++ drop m s.old }
-{
-    for j in 0..m {
-        let x = s[MAX_BLOCK + j];
-        s[j] = x;
-    }
-}
-
-// The same from any place on.
+// The m states from place `by` on go to the first places. From a whole block on, a number that it knows, the compiler moves all at once.
 fn shift(s: &mut [u32], by: usize, m: usize)
     requires { by + m ≤ length s.old }
     ensures { s.new ≡ take m (drop by s.old) ++ drop m s.old }
 {
     if by == MAX_BLOCK {
-        shift_block(s, m);
-        return;
-    }
-    shift_by(s, by, m);
-}
-
-// The block's states from place `from` on go to the places from `at` on.
-fn append(s: &mut [u32], at: usize, block: &[u32], from: usize)
-    requires { (from ≤ length block.now) × (at + (length block.now - from) ≤ length s.old) }
-    ensures { s.new ≡ take at s.old ++ drop from block.now ++ drop (at + (length block.now - from)) s.old }
-{
-    let m = block.len() - from;
-    for j in 0..m {
-        s[at + j] = block[from + j];
+        s.copy_within(MAX_BLOCK..MAX_BLOCK + m, 0);
+    } else {
+        s.copy_within(by..by + m, 0);
     }
 }
 
@@ -174,9 +114,9 @@ fn keep(history: &mut [u32], h: usize, block: &[u32], left: usize)
     ensures { history.new ≡ drop (h + length block.now - left) (take h history.old ++ block.now) ++ drop left history.old }
 {
     let skip = h + block.len() - left;
-    let m = lists::over(h, skip);
+    let m = h.saturating_sub(skip);
     shift(history, skip, m);
-    append(history, m, block, lists::over(skip, h));
+    history[m..left].copy_from_slice(&block[skip.saturating_sub(h)..]);
 }
 
 // The verdicts of the first `count` ticks of a trace, in the first m words of out, the others of which become zero.
@@ -195,27 +135,39 @@ fn write_verdicts(
 {
     verdict::judge(t, place, older, newer, count, scratch, out);
     let w = (count + 63) / 64;
-    column::clear(&mut out[w..m]);
+    out[w..m].fill(0);
 }
 
-// The number of a feed of k states, where `unfit` says whether the session is, and the buffers have these lengths.
-fn feed_number(unfit: bool, seen: u64, k: usize, history: usize, scratch: usize, out: usize) -> u8
-    ensures { result ≡ first (feed_rows max_seen unfit seen k history scratch out) }
+// Whether a feed of k states to a fit session is accepted, where the buffers have these lengths.
+fn check_feed(
+    seen: u64,
+    k: usize,
+    history: usize,
+    scratch: usize,
+    out: usize,
+) -> Result<(), Refusal>
+    ensures { number result ≡ first (feed_rows max_seen false seen k history scratch out) }
 {
-    let left = MAX_SEEN - seen as usize;
-    let short = (history < HISTORY_WORDS) | (scratch < SCRATCH_WORDS) | (out < FEED_WORDS);
-    let past = lists::either(left < k, refusals::SEEN, 0);
-    let buffer = lists::either(short, refusals::BUFFER, past);
-    let many = lists::either(MAX_BLOCK < k, refusals::STATES, buffer);
-    lists::either(unfit, refusals::UNSOUND, many)
+    if MAX_BLOCK < k {
+        return Err(Refusal::States);
+    }
+    if history < HISTORY_WORDS || scratch < SCRATCH_WORDS || out < FEED_WORDS {
+        return Err(Refusal::Buffer);
+    }
+    if MAX_SEEN - (seen as usize) < k {
+        return Err(Refusal::Seen);
+    }
+    Ok(())
 }
 
-fn close_number(unfit: bool, history: usize, scratch: usize, out: usize) -> u8
-    ensures { result ≡ first (close_rows unfit history scratch out) }
+// The same of a close.
+fn check_close(history: usize, scratch: usize, out: usize) -> Result<(), Refusal>
+    ensures { number result ≡ first (close_rows false history scratch out) }
 {
-    let short = (history < HISTORY_WORDS) | (scratch < SCRATCH_WORDS) | (out < CLOSE_WORDS);
-    let buffer = lists::either(short, refusals::BUFFER, 0);
-    lists::either(unfit, refusals::UNSOUND, buffer)
+    if history < HISTORY_WORDS || scratch < SCRATCH_WORDS || out < CLOSE_WORDS {
+        return Err(Refusal::Buffer);
+    }
+    Ok(())
 }
 
 // A close; where `old`, by the delay before A5.
@@ -225,22 +177,17 @@ pub fn close_under(
     history: &[u32],
     scratch: &mut [u64],
     out: &mut [u64],
-) -> Answer
-    ensures { record { answer = result; history = history.now; scratch = scratch.new; out = out.new } ≡ closing_by (wait_of old) s history.now scratch.old out.old }
+) -> Result<Given, Refusal>
+    ensures { record { answer = answer_told s result; history = history.now; scratch = scratch.new; out = out.new } ≡ closing_by (wait_of old) s history.now scratch.old out.old }
 {
-    let d = table::delay_under(old, s.table, s.rule);
-    let number = close_number(d.number != 0, history.len(), scratch.len(), out.len());
-    if number != 0 {
-        return Answer {
-            number,
-            count: 0,
-            session: s,
-        };
-    }
-    finish(s, d.delay as usize, history, scratch, out)
+    let Ok(d) = table::delay_under(old, s.table, s.rule) else {
+        return Err(Refusal::Unsound);
+    };
+    check_close(history.len(), scratch.len(), out.len())?;
+    Ok(finish(s, d as usize, history, scratch, out))
 }
 
-// A feed of a rule of a table that has seen so many states: all of it but the session that is handed back.
+// A feed of a rule of a table that has seen so many states: how many verdicts it gives; all of it but the session that is handed back.
 pub fn feed_rule(
     t: Table,
     rule: usize,
@@ -249,32 +196,23 @@ pub fn feed_rule(
     history: &mut [u32],
     scratch: &mut [u64],
     out: &mut [u64],
-) -> Step
-    ensures { record { step = result; history = history.new; scratch = scratch.new; out = out.new } ≡ step_effect (feeding (session_with t rule seen) block.now history.old scratch.old out.old) }
+) -> Result<usize, Refusal>
+    ensures { record { step = step_told result; history = history.new; scratch = scratch.new; out = out.new } ≡ step_effect (feeding (session_with t rule seen) block.now history.old scratch.old out.old) }
 {
-    let d = table::delay(t, rule);
-    let number = feed_number(
-        d.number != 0,
-        seen,
-        block.len(),
-        history.len(),
-        scratch.len(),
-        out.len(),
-    );
-    if number != 0 {
-        return Step { number, count: 0 };
-    }
-    let count = advance(
+    let Ok(d) = table::delay(t, rule) else {
+        return Err(Refusal::Unsound);
+    };
+    check_feed(seen, block.len(), history.len(), scratch.len(), out.len())?;
+    Ok(advance(
         t,
         rule,
         seen as usize,
-        d.delay as usize,
+        d as usize,
         block,
         history,
         scratch,
         out,
-    );
-    Step { number: 0, count }
+    ))
 }
 
 // A feed that is accepted: the count of verdicts; d is the delay.
@@ -293,8 +231,8 @@ fn advance(
 {
     let place = t.rules[rule].watched as usize;
     let after = seen + block.len();
-    let h = lists::lesser(seen, d);
-    let count = lists::over(after, d) - lists::over(seen, d);
+    let h = seen.min(d);
+    let count = after.saturating_sub(d) - seen.saturating_sub(d);
     write_verdicts(
         t,
         place,
@@ -305,19 +243,19 @@ fn advance(
         scratch,
         out,
     );
-    keep(history, h, block, lists::lesser(after, d));
+    keep(history, h, block, after.min(d));
     count
 }
 
 // A close that is accepted; d is the delay.
-fn finish(s: Session, d: usize, history: &[u32], scratch: &mut [u64], out: &mut [u64]) -> Answer
+fn finish(s: Session, d: usize, history: &[u32], scratch: &mut [u64], out: &mut [u64]) -> Given
     requires { Closable s d history.now scratch.old out.old }
-    ensures { record { answer = result; history = history.now; scratch = scratch.new; out = out.new } ≡ closed d s history.now scratch.old out.old }
+    ensures { record { answer = record { number = 0; count = result.count; session = result.session }; history = history.now; scratch = scratch.new; out = out.new } ≡ closed d s history.now scratch.old out.old }
 {
     let t = s.table;
     let rule = s.rule;
     let place = t.rules[rule].watched as usize;
-    let count = lists::lesser(s.seen as usize, d);
+    let count = (s.seen as usize).min(d);
     write_verdicts(
         t,
         place,
@@ -328,10 +266,8 @@ fn finish(s: Session, d: usize, history: &[u32], scratch: &mut [u64], out: &mut 
         scratch,
         out,
     );
-    let session = with_seen(s, 0);
-    Answer {
-        number: 0,
+    Given {
         count,
-        session,
+        session: Session { seen: 0, ..s },
     }
 }

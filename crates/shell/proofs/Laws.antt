@@ -1,34 +1,25 @@
--- What a call leaves in a buffer, and a call on the session that bytes hold: its count is small. Assumes nothing.
-use Prim.Native.Nat.{ℕ, ◌+◌, ◌≤◌}
+-- A call on the session that bytes hold: its count is small. Assumes nothing.
+use Prim.Native.Nat.{ℕ, ◌+◌, ◌*◌, ◌≤◌}
 use native.Mathlib.Omega.{arith}
 use mathlib.Core.Path.{◌≡◌, refl, ap, ◌∙◌}
 use mathlib.Core.Bool.{Bool, true, false}
 use mathlib.Core.Logic.{⊎_elim}
 use mathlib.Core.List.{List}
-use borrow.Author.Tests.{eq-eqb, ne_eqb, eqb-true, eqb-false}
+use borrow.Author.Tests.{eqb-true, eqb-false}
 use lib.Dec.{eqb}
 use lib.ListN.{length}
 use Rattle.limits.specs.Limits.{max_seen}
+use Rattle.refusals.specs.Refusals.{number_of}
+use Rattle.refusals.specs.declared.Refusal.{Refusal}
 use Rattle.lists.proofs.Tests.{true_or_false}
 use Rattle.mltl.specs.Mltl.{delay}
 use Rattle.table.specs.Nodes.{wait_of}
 use Rattle.flat.specs.Sessions.{renewed}
 use Rattle.session.specs.declared.Session.{Session}
-use Rattle.session.specs.declared.Answer.{Answer}
-use Rattle.session.specs.declared.Step.{Step}
-use Rattle.session.specs.Session.{Effect, StepEffect, step_effect, unfit_by, unfit, feed_number_by, feeding_by, feeding, close_number_by, closing_by}
-use Rattle.registers.specs.declared.Outcome.{Outcome}
-use Rattle.registers.specs.Registers.{after_call}
+use Rattle.session.specs.Session.{Step, Answer, Effect, StepEffect, step_effect, unfit_by, unfit, feed_number_by, feeding_by, feeding, close_number_by, closing_by}
 use Rattle.session.proofs.Answers.{feed_fits, close_fits, unfit_short}
 use Rattle.session.proofs.Handed.{step_refused, step_accepted}
 use Rattle.shell.specs.Answers.{leaves, session_answer, step_answer, counted, Called}
-
--- ---- what a call leaves in a buffer
-pub renews : {number : ℕ} {new b : List ℕ} (old : List ℕ) → number ≡ 0 → b ≡ new → b ≡ leaves number new old
-renews {number = number} old n e = rw (eq-eqb number 0 n) e
-
-pub stays : {number : ℕ} (new old : List ℕ) → (number ≡ 0 → ⊥) → old ≡ leaves number new old
-stays {number = number} new old n = rw (ne_eqb number 0 n)
 
 -- ---- counts are small
 pub count_within : {e : Effect} {r : Answer} {h x o : List ℕ} (n : ℕ) → ◌≡◌ {A = Effect} (record { answer = r; history = h; scratch = x; out = o }) e → e.answer.count ≤ n
@@ -52,7 +43,11 @@ close_count old s h x o =
     rw b (let f = close_fits (unfit_by (wait_of old) s) (length h) (length x) (length o) (eqb-true n 0 b) in omega (arith, unfit_short old s f.fit)))
     (λ (b : eqb n 0 ≡ false). rw b (omega arith)) (true_or_false (eqb n 0))
 
--- ---- calls: the session is what its bytes hold
+-- ---- calls: a refused one answers its number
+pub answers_number : (e : Refusal) {n : ℕ} → n ≡ number_of e → n ≡ number_of e + 4294967296 * 0
+answers_number e p = omega (arith, p)
+
+-- the session is what its bytes hold
 pub called_by : (run : Session → Effect) {s z : Session} {r : Answer} {n : ℕ} {b b' h x o : List ℕ}
     → ◌≡◌ {A = Effect} (record { answer = r; history = h; scratch = x; out = o }) (run s)
     → s ≡ z → (n ≡ session_answer r) × (b' ≡ counted renewed r b) → Called renewed (run z) b n b' h x o
@@ -79,9 +74,3 @@ module _ (s : Session) (block h x o : List ℕ) {k : Step} {h' x' o' : List ℕ}
       (λ (t : eqb k.number 0 ≡ false).
       called_by (λ (y : Session). feeding y block h x o) (step_refused s block h x o e (eqb-false k.number 0 t)) p (q.0, q.1 ∙ rw t))
       (true_or_false (eqb k.number 0))
-
--- the same with the registers g beside it
-pub noted_by : (run : Session → Effect) (outcome : Session → Outcome) (g : List ℕ) {s z : Session} {r : Answer} {n : ℕ} {g' b b' h x o : List ℕ}
-    → ◌≡◌ {A = Effect} (record { answer = r; history = h; scratch = x; out = o }) (run s) × (g' ≡ after_call (outcome s) g)
-    → s ≡ z → (n ≡ session_answer r) × (b' ≡ counted renewed r b) → Called renewed (run z) b n b' h x o × (g' ≡ after_call (outcome z) g)
-noted_by run outcome g p e q = (called_by run p.0 e q, p.1 ∙ ap (λ (y : Session). after_call (outcome y) g) e)

@@ -1,4 +1,4 @@
--- what a call leaves in a buffer, and a call on the session that bytes hold
+-- a call on the session that bytes hold
 mod Laws
 -- the scheduler's calls: the work on what one pass has found
 mod Scheduler

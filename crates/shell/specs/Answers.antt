@@ -1,24 +1,20 @@
 -- The answers of the C interface as one number each, and what its calls leave in the bytes of tables and sessions.
 use Rattle.std.specs.Prelude.{ℕ, ◌+◌, ◌*◌, min, ◌≡◌, List, [], ◌∷◌, eqb}
 use Rattle.lists.specs.Choice.{pick}
-use Rattle.interval.specs.declared.Splitting.{Splitting}
-use Rattle.interval.specs.declared.Doubling.{Doubling}
-use Rattle.table.specs.declared.RuleDelay.{RuleDelay}
-use Rattle.book.specs.declared.Writing.{Writing}
-use Rattle.text.specs.declared.Typed.{Typed}
+use Rattle.interval.specs.Parts.{Splitting}
+use Rattle.interval.specs.Doubling.{Doubling}
+use Rattle.table.specs.Sound.{RuleDelay}
+use Rattle.book.specs.Writing.{Writing}
+use Rattle.text.specs.Typing.{Typed}
 use Rattle.flat.specs.Flat.{table_from, written}
 use Rattle.flat.specs.Sessions.{session_written}
-use Rattle.simplify.specs.declared.Simplified.{Simplified}
-use Rattle.simplify.specs.Promise.{PromisedBy}
+use Rattle.simplify.specs.Promise.{Simplified, PromisedBy}
 use Rattle.mltl.specs.Mltl.{Formula, delay}
 use Rattle.mltl.specs.Known.{Value, no, undecided, yes}
 use Rattle.early.specs.Early.{Told, refused, value}
 use Rattle.reach.specs.Reach.{Reached, refused as not-reached, empty, ticks}
-use Rattle.registers.specs.declared.Reading.{Reading}
-use Rattle.session.specs.declared.Answer.{Answer}
-use Rattle.session.specs.declared.Step.{Step}
-use Rattle.session.specs.declared.Opening.{Opening}
-use Rattle.session.specs.Session.{Effect}
+use Rattle.registers.specs.Registers.{Reading}
+use Rattle.session.specs.Session.{Step, Answer, Opening, Effect}
 
 -- a buffer after a call with this number: what an accepted call writes there, and as it was where the call is refused
 abbrev pub leaves : ℕ → List ℕ → List ℕ → List ℕ

@@ -2,144 +2,117 @@
 // lent.
 #![tactic(auto)]
 
-ghost use Rattle.std.specs.Prelude.{◌≡◌, ◌+◌, ◌≤◌};
-ghost use Rattle.limits.specs.Limits.{max_delay, max_seen};
+ghost use Rattle.std.specs.Prelude.{true, ◌≡◌, ◌*◌, ◌≤◌, ◌<◌, Err};
+ghost use Rattle.limits.specs.Limits.{max_delay, max_list};
+ghost use Rattle.refusals.specs.Refusals.{number};
 ghost use Rattle.mltl.specs.Mltl.{delay};
 ghost use Rattle.table.specs.Nodes.{wait_of};
-ghost use Rattle.book.specs.Reading.{code_of};
+ghost use Rattle.book.specs.Reading.{reading_told, code_of};
+ghost use Rattle.text.specs.Typing.{typed_told};
 ghost use Rattle.early.specs.Early.{told_by};
 ghost use Rattle.reach.specs.Reach.{reached_by};
-ghost use Rattle.session.specs.Session.{feeding, closing_by};
-ghost use Rattle.scheduler.specs.Work.{Told, leave_work, turn_work, close_work};
+ghost use Rattle.session.specs.Session.{opening_told, feeding, closing_by};
+ghost use Rattle.scheduler.specs.Scheduler.{leave_effect, turn_effect, close_effect};
 ghost use Rattle.registers.specs.Registers.{after_call};
 ghost use Rattle.noted.specs.Noted.{feed_outcome, close_outcome};
-ghost use Rattle.flat.specs.Flat.{table_from, written};
-ghost use Rattle.flat.specs.Sessions.{session_from, session_written, renewed};
-ghost use Rattle.shell.specs.Answers.{leaves, text_answer, session_answer, step_answer, early_answer, reach_answer, range_after, counted, Called};
-ghost use Rattle.shell.specs.Scheduler.{turn_code, leave_in, turn_in, close_in};
+ghost use Rattle.flat.specs.Flat.{table_from};
+ghost use Rattle.flat.specs.Sessions.{session_from, renewed};
+ghost use Rattle.shell.specs.Answers.{text_answer, early_answer, reach_answer, range_after, stored, Called};
+ghost use Rattle.shell.specs.Scheduler.{turn_answer, leave_call, turn_call, close_call};
 
-use book::Reading;
 use early::Decision;
-use limits::{MAX_PARTS, SESSION_BYTES, STATUS_BYTES, TABLE_BYTES};
-use reach::Range;
-use records::{Change, Summary};
-use scheduler::Turning;
-use session::{Answer, Session, Step};
-use table::Table;
-use text::Typed;
+use limits::{SESSION_BYTES, STATUS_BYTES, TABLE_BYTES};
+use reach::Ticks;
+use records::Record;
+use refusals::Refusal;
+use scheduler::Served;
+use session::Session;
 
 // ---- what an accepted call writes
 
-pub fn put_table(number: u8, t: Table, b: &mut [u8; TABLE_BYTES])
-    ensures { b.new ≡ leaves number (written t b.old) b.old }
+// The session that a call gives; 0, or the number of the refusal.
+pub fn put_session(r: Result<Session, Refusal>, b: &mut [u8; SESSION_BYTES]) -> u32
+    ensures { (result ≡ (opening_told r).number) × (b.new ≡ stored (opening_told r) b.old) }
 {
-    if number == 0 {
-        flat::write_table(t, b);
-    }
-}
-
-pub fn put_parts(number: u8, ks: [u8; MAX_PARTS], parts: &mut [u8; MAX_PARTS])
-    ensures { parts.new ≡ leaves number ks parts.old }
-{
-    if number == 0 {
-        *parts = ks;
-    }
-}
-
-pub fn put_session(number: u8, s: Session, b: &mut [u8; SESSION_BYTES])
-    ensures { b.new ≡ leaves number (session_written s b.old) b.old }
-{
-    if number == 0 {
-        flat::write_session(s, b);
-    }
-}
-
-// The count of states seen.
-fn put_count(r: Answer, b: &mut [u8; SESSION_BYTES])
-    ensures { b.new ≡ counted renewed r b.old }
-{
-    if r.number == 0 {
-        flat::write_seen(r.session.seen, b);
+    match r {
+        Ok(s) => {
+            flat::write_session(s, b);
+            0
+        }
+        Err(e) => e.number() as u32,
     }
 }
 
 // The first and the last tick, where there is a range.
-pub fn put_range(r: Range, range: &mut [u64; 2])
+pub fn put_range(r: Result<Option<Ticks>, Refusal>, range: &mut [u64; 2])
     ensures { range.new ≡ range_after (reached_by r) range.old }
 {
-    match r {
-        Range::Refused(_) => {}
-        Range::Empty => {}
-        Range::Ticks(first, last) => {
-            let ends = [first, last];
-            *range = ends;
-        }
+    if let Ok(Some(t)) = r {
+        *range = [t.first, t.last];
     }
 }
 
 // ---- answers as one number
 
-pub fn book_code(r: Reading) -> u32
-    ensures { result ≡ code_of r }
+// 0, or the number of the refusal.
+pub fn code(r: Result<(), Refusal>) -> u32
+    ensures { result ≡ number r }
 {
-    r.number as u32 + 256 * (r.record as u32)
+    match r {
+        Ok(()) => 0,
+        Err(e) => e.number() as u32,
+    }
+}
+
+// Of a book that is refused.
+pub fn book_code(f: book::Fault) -> u32
+    ensures { result ≡ code_of (reading_told (Err f)) }
+{
+    f.refusal.number() as u32 + 256 * (f.record as u32)
 }
 
 // The largest place or line that an answer holds, 2^56 - 1: no machine has a text so long.
 const MAX_PLACE: usize = 72057594037927935;
 
-pub fn text_code(r: Typed) -> u64
-    ensures { result ≡ text_answer r }
+// Of a text that is refused.
+pub fn text_code(f: text::Fault) -> u64
+    ensures { result ≡ text_answer (typed_told (Err f)) }
 {
-    if r.place > MAX_PLACE {
-        return r.number as u64 + 256 * (MAX_PLACE as u64);
-    }
-    r.number as u64 + 256 * (r.place as u64)
+    f.refusal.number() as u64 + 256 * (f.place.min(MAX_PLACE) as u64)
 }
 
-pub fn early_code(d: Decision) -> u32
-    ensures { result ≡ early_answer (told_by d) }
+// The number of the refusal, or 256 times the value.
+pub fn early_code(r: Result<Decision, Refusal>) -> u32
+    ensures { result ≡ early_answer (told_by r) }
 {
-    match d {
-        Decision::Refused(number) => number as u32,
-        Decision::No => 0,
-        Decision::Yes => 256,
-        Decision::Open => 512,
+    match r {
+        Ok(Decision::No) => 0,
+        Ok(Decision::Yes) => 256,
+        Ok(Decision::Open) => 512,
+        Err(e) => e.number() as u32,
     }
 }
 
-pub fn range_code(r: Range) -> u32
+// The number of the refusal, or 256 where there is a range.
+pub fn range_code(r: Result<Option<Ticks>, Refusal>) -> u32
     ensures { result ≡ reach_answer (reached_by r) }
 {
     match r {
-        Range::Refused(number) => number as u32,
-        Range::Empty => 0,
-        Range::Ticks(_, _) => 256,
+        Ok(None) => 0,
+        Ok(Some(_)) => 256,
+        Err(e) => e.number() as u32,
     }
 }
 
 // ---- sessions
 
-// The count of states seen, with the answer as one number.
-fn put_answer(r: Answer, b: &mut [u8; SESSION_BYTES]) -> u64
-    requires { r.count ≤ max_delay }
-    ensures { (result ≡ session_answer r) × (b.new ≡ counted renewed r b.old) }
+// What an accepted call gives: the count of states seen, in the session's bytes, and the count of verdicts, as the answer.
+fn put_given(count: usize, seen: u64, b: &mut [u8; SESSION_BYTES]) -> u64
+    requires { count ≤ max_delay }
+    ensures { (result ≡ 4294967296 * count) × (b.new ≡ renewed seen b.old) }
 {
-    put_count(r, b);
-    r.number as u64 + 4294967296 * (r.count as u64)
-}
-
-// The same for n states more, without the session that a feed hands back: it would be copied at each feed.
-fn put_step(k: Step, seen: u64, n: usize, b: &mut [u8; SESSION_BYTES]) -> u64
-    requires { (k.count ≤ max_delay) × (k.number ≡ 0 → seen + n ≤ max_seen) }
-    ensures { (result ≡ step_answer k) × (b.new ≡ leaves k.number (renewed (seen + n) b.old) b.old) }
-{
-    let answer = k.number as u64 + 4294967296 * (k.count as u64);
-    if k.number != 0 {
-        return answer;
-    }
-    flat::write_seen(seen + n as u64, b);
-    answer
+    flat::write_seen(seen, b);
+    4294967296 * (count as u64)
 }
 
 // The verdicts that a block of states settles.
@@ -153,9 +126,10 @@ pub fn feed(
     ensures { Called renewed (feeding (session_from session.old) block.now history.old scratch.old out.old) session.old result session.new history.new scratch.new out.new }
 {
     let s = flat::read_session(session);
-    let t = s.table;
-    let k = session::feed_rule(t, s.rule, s.seen, block, history, scratch, out);
-    put_step(k, s.seen, block.len(), session)
+    match session::feed_rule(s.table, s.rule, s.seen, block, history, scratch, out) {
+        Ok(count) => put_given(count, s.seen + block.len() as u64, session),
+        Err(e) => e.number() as u64,
+    }
 }
 
 // The verdicts of the states that history still holds; where `old`, by the delay before A5.
@@ -169,8 +143,10 @@ pub fn close(
     ensures { Called renewed (closing_by (wait_of old) (session_from session.old) history.now scratch.old out.old) session.old result session.new history.now scratch.new out.new }
 {
     let s = flat::read_session(session);
-    let r = session::close_under(old, s, history, scratch, out);
-    put_answer(r, session)
+    match session::close_under(old, s, history, scratch, out) {
+        Ok(g) => put_given(g.count, g.session.seen, session),
+        Err(e) => e.number() as u64,
+    }
 }
 
 // ---- sessions with the status registers beside them
@@ -186,8 +162,10 @@ pub fn feed_noted(
     ensures { Called renewed (feeding (session_from session.old) block.now history.old scratch.old out.old) session.old result session.new history.new scratch.new out.new × (registers.new ≡ after_call (feed_outcome delay (session_from session.old) (feeding (session_from session.old) block.now history.old scratch.old out.old)) registers.old) }
 {
     let s = flat::read_session(session);
-    let r = noted::feed(registers, s, block, history, scratch, out);
-    put_answer(r, session)
+    match noted::feed(registers, s, block, history, scratch, out) {
+        Ok(g) => put_given(g.count, g.session.seen, session),
+        Err(e) => e.number() as u64,
+    }
 }
 
 pub fn close_noted(
@@ -201,90 +179,85 @@ pub fn close_noted(
     ensures { Called renewed (closing_by (wait_of old) (session_from session.old) history.now scratch.old out.old) session.old result session.new history.now scratch.new out.new × (registers.new ≡ after_call (close_outcome (wait_of old) (session_from session.old) (closing_by (wait_of old) (session_from session.old) history.now scratch.old out.old)) registers.old) }
 {
     let s = flat::read_session(session);
-    let r = noted::close_under(registers, old, s, history, scratch, out);
-    put_answer(r, session)
+    match noted::close_under(registers, old, s, history, scratch, out) {
+        Ok(g) => put_given(g.count, g.session.seen, session),
+        Err(e) => e.number() as u64,
+    }
 }
 
-// ---- the scheduler: the work on what one pass over the list has found, and what the list gets
+// ---- the scheduler: one pass over the list, the work on what it has found, and the change of the list
 
-// The number of a refusal or 0, and what the list gets.
-#[derive(Clone, Copy)]
-pub struct Numbered {
-    pub number: u32,
-    pub change: Change,
-}
-
-// The answer as one number, and what the list gets.
-#[derive(Clone, Copy)]
-pub struct Coded {
-    pub code: u64,
-    pub change: Change,
-}
-
+// A block is left with the record at a place.
 pub fn leave(
+    list: &mut [Record],
     table: &[u8; TABLE_BYTES],
-    s: Summary,
     place: usize,
     block: &[u32],
     waiting: &mut [u32],
-) -> Numbered
-    ensures { record { done = result; waiting = waiting.new } ≡ leave_in (leave_work (table_from table.now) s place block.now waiting.old) }
+) -> u32
+    ensures { record { answer = result; records = list.new; waiting = waiting.new } ≡ leave_call (leave_effect (table_from table.now) list.old place block.now waiting.old) }
 {
+    let s = records::scan(list);
     let t = flat::read_table(table);
-    let k = scheduler::leave(t, s, place, block, waiting);
-    let change = k.change;
-    Numbered {
-        number: k.number as u32,
-        change,
+    match scheduler::leave(t, s, place, block, waiting) {
+        Ok(change) => {
+            records::apply(list, change);
+            0
+        }
+        Err(e) => e.number() as u32,
     }
 }
 
-fn turn_code(k: Turning) -> u64
-    requires { Told k }
-    ensures { result ≡ turn_code k }
+// Of a turn that served a record.
+fn turn_code(k: Served) -> u64
+    requires { (k.place < max_list) × (k.count ≤ max_delay) }
+    ensures { result ≡ turn_answer 0 true k.place k.count }
 {
-    let answer = k.number as u64 + 4294967296 * (k.count as u64);
-    if k.served {
-        return answer + 256 + 65536 * (k.place as u64);
-    }
-    answer
+    256 + 65536 * (k.place as u64) + 4294967296 * (k.count as u64)
 }
 
+// The first record after the place that has a block waiting is fed it.
 pub fn turn(
+    list: &mut [Record],
     table: &[u8; TABLE_BYTES],
-    s: Summary,
     place: usize,
     history: &mut [u32],
     waiting: &[u32],
     scratch: &mut [u64],
     out: &mut [u64],
-) -> Coded
-    ensures { record { done = result; history = history.new; scratch = scratch.new; out = out.new } ≡ turn_in (turn_work (table_from table.now) s place history.old waiting.now scratch.old out.old) }
+) -> u64
+    ensures { record { answer = result; records = list.new; history = history.new; scratch = scratch.new; out = out.new } ≡ turn_call (turn_effect (table_from table.now) list.old place history.old waiting.now scratch.old out.old) }
 {
+    let s = records::scan(list);
     let t = flat::read_table(table);
-    let k = scheduler::turn(t, s, place, history, waiting, scratch, out);
-    let change = k.change;
-    Coded {
-        code: turn_code(k),
-        change,
+    match scheduler::turn(t, s, place, history, waiting, scratch, out) {
+        Ok(Some(k)) => {
+            records::apply(list, k.change);
+            turn_code(k)
+        }
+        Ok(None) => 0,
+        Err(e) => e.number() as u64,
     }
 }
 
+// The record at a place is closed.
 pub fn close_record(
+    list: &mut [Record],
     table: &[u8; TABLE_BYTES],
-    s: Summary,
     place: usize,
     history: &[u32],
     scratch: &mut [u64],
     out: &mut [u64],
-) -> Coded
-    ensures { record { done = result; scratch = scratch.new; out = out.new } ≡ close_in (close_work (table_from table.now) s place history.now scratch.old out.old) }
+) -> u64
+    ensures { record { answer = result; records = list.new; scratch = scratch.new; out = out.new } ≡ close_call (close_effect (table_from table.now) list.old place history.now scratch.old out.old) }
 {
+    let s = records::scan(list);
     let t = flat::read_table(table);
-    let k = scheduler::close(t, s, place, history, scratch, out);
-    let change = k.change;
-    Coded {
-        code: k.number as u64 + 4294967296 * (k.count as u64),
-        change,
+    match scheduler::close(t, s, place, history, scratch, out) {
+        Ok(k) => {
+            records::apply(list, k.change);
+            4294967296 * (k.count as u64)
+        }
+        Err(e) => e.number() as u64,
     }
 }

@@ -30,8 +30,9 @@ fn every_fourth(states: &[u32], i: usize, from: usize) -> u32
     ensures { result ≡ number 32 (fourths (λ j. signal_column i states.now (from + j))) }
 {
     let mut x: u32 = 0;
+    // k is also the place of the bits.
     for k in 0..8 {
-        x = x | digit_of(states[from + 4 * k], i) << (4 * k);
+        x |= digit_of(states[from + 4 * k], i) << (4 * k);
     }
     x
 }
@@ -42,6 +43,7 @@ fn lanes_from(states: &[u32], i: usize, from: usize) -> [u32; 8]
     ensures { Lanes (signal_column i states.now) from 4 result }
 {
     let mut l = [0u32; 8];
+    // k is also the place of the states.
     for k in 0..4 {
         l[k] = every_fourth(states, i, from + k);
         l[k + 4] = every_fourth(states, i, from + 32 + k);
@@ -73,8 +75,9 @@ fn part_word(states: &[u32], i: usize, from: usize, count: usize) -> u64
     ensures { result ≡ number count (λ j. signal_column i states.now (from + j)) }
 {
     let mut x: u64 = 0;
+    // j is also the place of the bit.
     for j in 0..count {
-        x = x | (digit_of(states[from + j], i) as u64) << j;
+        x |= (digit_of(states[from + j], i) as u64) << j;
     }
     x
 }
@@ -84,7 +87,7 @@ fn last_word(states: &[u32], i: usize, from: usize) -> u64
     requires { i ≤ max_signal }
     ensures { result ≡ number 64 (λ j. signal_column i states.now (from + j)) }
 {
-    let n = lists::over(states.len(), from);
+    let n = states.len().saturating_sub(from);
     if 64 <= n {
         return whole_word(states, i, from);
     }
@@ -104,7 +107,7 @@ fn joint_word(older: &[u32], newer: &[u32], i: usize, from: usize) -> u64
         return whole_word(older, i, from);
     }
     let low = part_word(older, i, from, k);
-    let high = part_word(newer, i, 0, lists::lesser(newer.len(), 64 - k));
+    let high = part_word(newer, i, 0, newer.len().min(64 - k));
     low | high << k
 }
 
@@ -128,9 +131,9 @@ fn whole_words(s: &mut [u64], at: usize, count: usize, states: &[u32], i: usize,
     requires { (i ≤ max_signal) × (at + count ≤ length s.old) × (64 * count ≤ length states.now - from) }
     ensures { Swept at (λ t. signal_column i states.now (from + t)) count s.old s.new }
 {
+    // w is also the place of the states.
     for w in 0..count {
-        let x = whole_word(states, i, from + 64 * w);
-        s[at + w] = x;
+        s[at + w] = whole_word(states, i, from + 64 * w);
     }
 }
 
@@ -139,9 +142,9 @@ fn other_words(s: &mut [u64], at: usize, count: usize, older: &[u32], newer: &[u
     requires { (i ≤ max_signal) × (at + count ≤ length s.old) × (at + count ≤ register_words) }
     ensures { Swept at (λ t. signal_column i (older.now ++ newer.now) (64 * at + t)) count s.old s.new }
 {
+    // w is also the place of the column.
     for w in 0..count {
-        let x = signal_word(older, newer, i, at + w);
-        s[at + w] = x;
+        s[at + w] = signal_word(older, newer, i, at + w);
     }
 }
 
@@ -149,7 +152,7 @@ fn other_words(s: &mut [u64], at: usize, count: usize, older: &[u32], newer: &[u
 fn filled_words(states: usize, from: usize, room: usize) -> usize
     ensures { result ≡ min room ((states - from) / 64) }
 {
-    lists::lesser(room, lists::over(states, from) / 64)
+    room.min(states.saturating_sub(from) / 64)
 }
 
 // The words that the older part fills, and the one after them, in which it ends: how many they are, at most `words`.
@@ -158,7 +161,7 @@ fn older_words(s: &mut [u64], words: usize, older: &[u32], newer: &[u32], i: usi
     ensures { (result ≡ min words (length older.now / 64 + 1)) × Swept 0 (signal_column i (older.now ++ newer.now)) result s.old s.new }
 {
     let a = filled_words(older.len(), 0, words);
-    let b = lists::lesser(words, a + 1);
+    let b = words.min(a + 1);
     whole_words(s, 0, a, older, i, 0);
     other_words(s, a, b - a, older, newer, i);
     b
@@ -169,7 +172,7 @@ fn newer_words(s: &mut [u64], at: usize, words: usize, older: &[u32], newer: &[u
     requires { (i ≤ max_signal) × (words ≤ length s.old) × (words ≤ register_words) × (at ≡ min words (length older.now / 64 + 1)) }
     ensures { Swept at (λ t. signal_column i (older.now ++ newer.now) (64 * at + t)) (words - at) s.old s.new }
 {
-    let from = lists::over(64 * at, older.len());
+    let from = (64 * at).saturating_sub(older.len());
     let c = filled_words(newer.len(), from, words - at);
     let b = at + c;
     whole_words(s, at, c, newer, i, from);
@@ -180,7 +183,7 @@ fn newer_words(s: &mut [u64], at: usize, words: usize, older: &[u32], newer: &[u
 pub fn pack_signal(s: &mut [u64], older: &[u32], newer: &[u32], i: usize)
     ensures { SignalPacked i (min register_words (length s.old)) (older.now ++ newer.now) s.old s.new }
 {
-    let words = lists::lesser(REGISTER_WORDS, s.len());
+    let words = REGISTER_WORDS.min(s.len());
     if SIGNALS <= i {
         column::fill(&mut s[0..words], 0);
         return;

@@ -14,7 +14,7 @@ use Rattle.lists.specs.Sequence.{padded}
 use Rattle.lists.proofs.Sequences.{length_snoc, set_padded, snoc_ind}
 use Rattle.table.specs.declared.Node.{Node}
 use Rattle.table.specs.Nodes.{no_node}
-use Rattle.simplify.specs.declared.Build.{Build}
+use Rattle.simplify.specs.Code.Built.{Built}
 use Rattle.simplify.specs.declared.Outcome.{Outcome}
 use Rattle.simplify.specs.declared.Outcome.TheVariants.{At, Put, Stay}
 use Rattle.simplify.specs.Code.Law.{law}
@@ -25,7 +25,7 @@ use Rattle.simplify.proofs.Rebuilding.{Fine, all_rebuilt, fine_fewer}
 use Rattle.simplify.proofs.Result.{padded_law}
 use Rattle.simplify.proofs.Sweeping.{all_kept}
 
-pub record Sim (b : Build) (s : Lists) : Type 0 where
+pub record Sim (b : Built) (s : Lists) : Type 0 where
   pub nodes : b.nodes ≡ padded no_node 64 s.nodes
   pub count : b.count ≡ length s.nodes
   pub places : places_of b ≡ s.places
@@ -35,7 +35,7 @@ pub record Sim (b : Build) (s : Lists) : Type 0 where
 sim_empty : Sim no_build no_lists
 sim_empty = record { nodes = refl; count = refl; places = refl; done = refl; size = refl }
 
-module _ (b : Build) (s : Lists) (m : Sim b s) where
+module _ (b : Built) (s : Lists) (m : Sim b s) where
   sim_place : length s.places < 64 → (p : ℕ) → Sim (push_place b p) (record { nodes = s.nodes; places = s.places ++ (p ∷ []) })
   sim_place h p = record {
     nodes = m.nodes;
@@ -57,7 +57,7 @@ module _ (b : Build) (s : Lists) (m : Sim b s) where
   pub sim_nodes : nodes_of b ≡ s.nodes
   sim_nodes = ap₂ take m.count m.nodes ∙ take-append_seam s.nodes (replicate (64 - length s.nodes) no_node)
 
-module _ (b : Build) (s : Lists) (m : Sim b s) (few : length s.nodes < 64) (room : length s.places < 64) where
+module _ (b : Built) (s : Lists) (m : Sim b s) (few : length s.nodes < 64) (room : length s.places < 64) where
   sim_pick : (n : Node) (t : Bool) (q : ℕ) → Sim (push_place (pick t b (push_node b n)) q)
       (record { nodes = pick t s.nodes (s.nodes ++ (n ∷ [])); places = s.places ++ (q ∷ []) })
   sim_pick n true q = sim_place b s m room q
@@ -116,7 +116,7 @@ sim_swept ms = snoc_ind (λ ns. AllFit ns → length ns ≤ 64 → Sim (foldl (k
     (sim_keep (foldl (keep_by ms) no_build ns) (swept ms ns) (y g (omega arith)) (omega (arith, v.few)) (omega (arith, v.many)) ms x))
 
 -- the counts of the last pass, whatever the nodes are
-pub record Counts (b : Build) (k : ℕ) : Type 0 where
+pub record Counts (b : Built) (k : ℕ) : Type 0 where
   pub done : b.done ≡ k
   pub count : b.count ≤ k
 
@@ -125,9 +125,9 @@ keep_counts ms = snoc_ind (λ ns. Counts (foldl (keep_by ms) no_build ns) (lengt
     (λ ns x y. rw (foldl-append (keep_by ms) no_build ns (x ∷ []), length_snoc ns x x)
     (go (foldl (keep_by ms) no_build ns) (length ns) x (bit ms (foldl (keep_by ms) no_build ns).done) y))
   where
-    go : (b : Build) (k : ℕ) (x : Node) (t : Bool) → Counts b k → Counts (keep_of b t x) (suc k)
+    go : (b : Built) (k : ℕ) (x : Node) (t : Bool) → Counts b k → Counts (keep_of b t x) (suc k)
     go b k x true c = record { done = omega (arith, c.done); count = omega (arith, c.count) }
     go b k x false c = record { done = omega (arith, c.done); count = omega (arith, c.count) }
 
-pub counted : (ms : ℕ) (nodes : List Node) (i : ℕ) → i ≤ length nodes → {b : Build} → b ≡ foldl (keep_by ms) no_build (take i nodes) → Counts b i
+pub counted : (ms : ℕ) (nodes : List Node) (i : ℕ) → i ≤ length nodes → {b : Built} → b ≡ foldl (keep_by ms) no_build (take i nodes) → Counts b i
 counted ms nodes i h e = rw e (rw (length-take-le i nodes h) at (keep_counts ms (take i nodes)))

@@ -1,15 +1,17 @@
--- Equal nodes, the place of a node, and the loop that looks for it. Assumes nothing.
+-- Equal nodes, the place of a node, and the search for it. Assumes nothing.
 use Prim.Native.Nat.{◌+◌, ◌<◌, ◌≤◌, suc, zero, ℕ}
-use native.Mathlib.Numerals.{add-one}
+use native.Mathlib.Nat.{le_antisymm}
 use native.Mathlib.Omega.{arith}
-use mathlib.Core.Path.{◌∙◌, ◌≡◌, ap, refl, sym}
-use mathlib.Core.Bool.{false, false≢true, true}
+use mathlib.Core.Path.{◌∙◌, ◌≡◌, ap, refl, sym, subst}
+use mathlib.Core.Bool.{Bool, false, false≢true, true, cond, not}
 use mathlib.Core.List.{List, [], ◌∷◌}
-use borrow.Author.Tests.{eq-eqb, eqb-true}
-use lib.ListN.{drop, drop_of_length-le, length}
-use lib.Seq.{drop-cons}
+use borrow.Author.Tests.{eq-eqb, eqb-true, ltb-false}
+use lib.ListN.{length}
+use lib.Dec.{ltb}
+use Rattle.std.specs.Prelude.{Option, Some, None, IsNone}
+use Rattle.std.specs.List.{position_or_len}
+use Rattle.lists.specs.Choice.{pick}
 use Rattle.table.specs.declared.Node.{Node}
-use Rattle.table.specs.Nodes.{no_node}
 use Rattle.simplify.specs.Code.Law.{node_within, same_node}
 use Rattle.simplify.specs.Code.Passes.{find}
 use Rattle.simplify.proofs.Cases.{both, by_test}
@@ -65,22 +67,24 @@ find_none (n ∷ ns) m h =
     other d f zero l e = false≢true (sym d ∙ ap (λ x. same_node x m) e ∙ same_in m)
     other d f (suc k) l e = f k (omega arith) e
 
--- ---- the loop: the first i nodes are others
-module _ (ns : List Node) (n : Node) where
-  abbrev pub Looked : ℕ → Type 0
-  Looked i = find ns n ≡ i + find (drop i ns) n
+-- ---- the search: what `position` finds, and where it finds none
+pub find_position : (ns : List Node) (m : Node) → find ns m ≡ position_or_len (λ x. same_node x m) ns
+unfolding find
+find_position [] m = refl
+find_position (n ∷ ns) m = go (same_node n m) (find_position ns m)
+  where
+    go : (b : Bool) → find ns m ≡ position_or_len (λ x. same_node x m) ns → pick b 0 (suc (find ns m)) ≡ cond (not b) (1 + position_or_len (λ x. same_node x m) ns) 0
+    go true e = refl
+    go false e = rw e (omega arith)
 
-  pub look_start : Looked 0
-  look_start = omega arith
+pub found_by : (ns : List Node) (m : Node) {r : Option ℕ}
+    → r ≡ cond (ltb (position_or_len (λ x. same_node x m) ns) (length ns)) (Some (position_or_len (λ x. same_node x m) ns)) None
+    → r ≡ cond (ltb (find ns m) (length ns)) (Some (find ns m)) None
+found_by ns m e = rw find_position e
 
-  pub look_found : (i : ℕ) → i < length ns → same_node (node_within ns i) n ≡ true → Looked i → i ≡ find ns n
-  unfolding find
-  look_found i h e l = sym (l ∙ rw (drop-cons ns i no_node, e) (omega arith))
-
-  pub look_more : (i : ℕ) → i < length ns → same_node (node_within ns i) n ≡ false → Looked i → Looked (i + 1)
-  unfolding find
-  look_more i h e l = l ∙ rw (drop-cons ns i no_node, e, add-one) (omega arith)
-
-  pub look_end : (i : ℕ) → length ns ≤ i → Looked i → i ≡ find ns n
-  unfolding find
-  look_end i h l = sym (l ∙ rw (drop_of_length-le ns {i = i} h) (omega arith))
+pub not_found : (ns : List Node) (m : Node) → None ≡ cond (ltb (find ns m) (length ns)) (Some (find ns m)) None → length ns ≡ find ns m
+not_found ns m e = le_antisymm (ltb-false (find ns m) (length ns) (go (ltb (find ns m) (length ns)) e)) (find_most ns m)
+  where
+    go : (b : Bool) → None ≡ cond b (Some (find ns m)) None → b ≡ false
+    go true h = absurd (false≢true (sym (subst IsNone h refl)))
+    go false h = refl

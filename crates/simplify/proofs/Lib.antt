@@ -12,7 +12,7 @@ mod Meaning
 mod Chains
 -- the outcome for a node that fits is a place before it, or a node that fits and that no law fits
 mod Placing
--- equal nodes, the place of a node, and the loop that looks for it
+-- equal nodes, the place of a node, and the search for it
 mod Found
 -- the passes over lists, of which the code's arrays hold the first places
 mod Model
@@ -48,3 +48,5 @@ mod Together
 mod Steps
 -- what a caller gets of the promise: when a table is accepted, what stays, and that a second call changes nothing
 mod Promises
+-- an array that a closure's calls made of another
+mod Maps

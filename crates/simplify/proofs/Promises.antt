@@ -12,8 +12,7 @@ use Rattle.table.specs.declared.Table.{Table}
 use Rattle.table.specs.Nodes.{watched_formula}
 use Rattle.table.specs.Sound.{is_sound, Sound}
 use Rattle.table.proofs.Soundness.{sound_iff}
-use Rattle.simplify.specs.declared.Simplified.{Simplified}
-use Rattle.simplify.specs.Promise.{Simpler, Promised}
+use Rattle.simplify.specs.Promise.{Simplified, Simpler, Promised}
 
 module _ (t : Table) (r : Simplified) (p : Promised t r) where
   -- accepted exactly where the table is sound, and refused with 25 exactly where it is not

@@ -11,9 +11,9 @@ use Rattle.table.specs.declared.Node.{Node}
 use Rattle.table.specs.declared.Table.{Table}
 use Rattle.table.specs.Nodes.{no_node, node_at}
 use Rattle.table.specs.Sound.{NodeFits, Sound}
-use Rattle.simplify.specs.declared.Build.{Build}
+use Rattle.simplify.specs.Code.Built.{Built}
 use Rattle.simplify.specs.Code.Law.{node_within}
-use Rattle.simplify.specs.Code.Passes.{Bounded, Space, no_build, step_of}
+use Rattle.simplify.specs.Code.Passes.{Bounded, no_build, step_of}
 use Rattle.simplify.proofs.Arrays.{sim_rebuilt}
 use Rattle.simplify.proofs.Chains.{AllFit}
 use Rattle.simplify.proofs.Fields.{hi_limit}
@@ -28,8 +28,8 @@ all_in_limit : (ns : List Node) → AllFit ns → (k : ℕ) → ((node_within ns
 all_in_limit ns f k = ⊎_elim (λ h. in_limit k (node_within ns k) (f k h))
     (λ h. rw (get_or-eq_default ns no_node {n = k} h) (omega arith, omega arith)) (lt_or_le k (length ns))
 
-pub ready : (t : Table) → Sound t → (i : ℕ) → i < t.node_count → {b : Build} → b ≡ foldl step_of no_build (take i t.nodes)
-    → Space b × Bounded b (node_at t i)
+pub ready : (t : Table) → Sound t → (i : ℕ) → i < t.node_count → {b : Built} → b ≡ foldl step_of no_build (take i t.nodes)
+    → (b.done < 64) × Bounded b (node_at t i)
 ready t sd i h {b} e =
     let c = sd.few_nodes in
     let p = sd.places in
@@ -42,7 +42,7 @@ ready t sd i h {b} e =
     let ks : (k : ℕ) → node_within (foldl step_of no_build old).nodes k ≡ node_within (rebuilt old).nodes k =
     λ k. ap (λ l. node_within l k) m.nodes ∙ padded_node (rebuilt old).nodes k in
     rw e (
-      record { count = omega (arith, m.count, v.few); done = omega (arith, m.done, v.many) },
+      omega (arith, m.done, v.many),
       record {
         lo = n.0;
         hi = n.1;

@@ -12,14 +12,13 @@ use Rattle.table.specs.declared.Table.{Table}
 use Rattle.table.specs.Sound.{Sound, is_sound}
 use Rattle.table.proofs.Soundness.{sound_iff}
 use Rattle.needed.specs.Marks.{needed}
-use Rattle.simplify.specs.declared.Build.{Build}
+use Rattle.simplify.specs.Code.Built.{Built}
 use Rattle.simplify.specs.Code.Passes.{keep_by, mark_watched, no_build, places_of, renamed_rule, step_of}
 use Rattle.simplify.specs.Promise.{Promised}
 use Rattle.simplify.proofs.Arrays.{Sim, sim_nodes, sim_rebuilt, sim_swept}
 use Rattle.simplify.proofs.Model.{rebuilt, simplified, swept}
 use Rattle.simplify.proofs.Rebuilding.{Rebuilt, all_rebuilt}
 use Rattle.simplify.proofs.Result.{fine_part, simpler}
-use Rattle.simplify.proofs.Sweeping.{all_kept}
 
 module _ (t : Table) (sd : Sound t) where
   abbrev old : List Node
@@ -34,17 +33,11 @@ module _ (t : Table) (sd : Sound t) where
   few : length (rebuilt old).nodes ≤ 64
   few = omega (arith, inv.few, length_old, sd.few_nodes)
 
-  module _ (first : Build) (e : first ≡ foldl step_of no_build old) where
+  module _ (first : Built) (e : first ≡ foldl step_of no_build old) where
     sim1 : Sim first (rebuilt old)
     sim1 = rw e (sim_rebuilt old (fine_part t sd t.node_count (omega arith)) (omega (arith, length_old, sd.few_nodes)))
 
-    pub first_count : first.count ≤ 64
-    first_count = omega (arith, sim1.count, few)
-
-    pub first_done : first.done ≤ 64
-    first_done = omega (arith, sim1.done, inv.many, length_old, sd.few_nodes)
-
-    module _ (rules : List Rule) (seed marks : ℕ) (second : Build)
+    module _ (rules : List Rule) (seed marks : ℕ) (second : Built)
         (e1 : rules ≡ map (renamed_rule (places_of first)) t.rules) (e2 : seed ≡ mark_watched (take t.rule_count rules))
         (e3 : marks ≡ needed seed (take first.count first.nodes))
         (e4 : second ≡ foldl (keep_by marks) no_build (take first.count first.nodes)) where
@@ -63,9 +56,6 @@ module _ (t : Table) (sd : Sound t) where
       sim2 : Sim second (swept ms (rebuilt old).nodes)
       sim2 = rw (e4 ∙ ap₂ (λ m l. foldl (keep_by m) no_build l) same_marks (sim_nodes first (rebuilt old) sim1))
           (sim_swept ms (rebuilt old).nodes inv.good.fits few)
-
-      pub second_done : second.done ≤ 64
-      second_done = omega (arith, sim2.done, (all_kept ms (rebuilt old).nodes inv.good.fits).many, few)
 
       module _ (out : List Rule) (e5 : out ≡ map (renamed_rule (places_of second)) rules) where
         abbrev table : Table

@@ -2,3 +2,5 @@
 pub mod Law
 -- the two passes over arrays
 pub mod Passes
+-- what the passes build
+pub mod Built

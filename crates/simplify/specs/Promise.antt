@@ -1,13 +1,24 @@
 -- What is promised of a simplified table (document 01, Simplifying). The table is free but for this.
-use Rattle.std.specs.Prelude.{ℕ, ◌≤◌, ◌<◌, ◌≡◌, true, false, List, map, length}
+use Rattle.std.specs.Prelude.{ℕ, ◌≤◌, ◌<◌, ◌≡◌, true, false, List, map, length, Result, Ok, Err}
 use Rattle.refusals.specs.Numbers.{UNSOUND}
+use Rattle.refusals.specs.Refusals.{number_of}
+use Rattle.refusals.specs.declared.Refusal.{Refusal}
 use Rattle.mltl.specs.Mltl.{Formula, holds, delay}
 use Rattle.table.specs.Nodes.{watched_formula}
 use Rattle.table.specs.Sound.{is_sound_by}
 use Rattle.table.specs.declared.Rule.{Rule}
 use Rattle.table.specs.declared.Table.{Table}
 use Rattle.simplify.specs.Fits.{Fits}
-use Rattle.simplify.specs.declared.Simplified.{Simplified}
+
+-- an answer: the number of the refusal and the table as it came, or 0 and the simplified table
+pub record Simplified : Type 0 where
+  pub number : ℕ
+  pub table : Table
+
+-- what an answer of the code says about the table t
+abbrev pub simplified_told : Table → Result Table Refusal → Simplified
+simplified_told t (Ok u) = record { number = 0; table = u }
+simplified_told t (Err e) = record { number = number_of e; table = t }
 
 -- u is a simplification of t, by a measure of how many states a verdict waits for
 pub record SimplerBy (wait : Formula → ℕ) (t u : Table) : Type 0 where

@@ -1,82 +1,66 @@
 // What the laws make of one node over its operands.
 ghost use Rattle.std.specs.Prelude.{◌≡◌, ◌+◌, ◌<◌};
 ghost use Rattle.table.specs.Nodes.{op_of};
-ghost use Rattle.simplify.specs.Code.Law.{constant, merged, over_one, is_inside, left_stays, law_not, law_one, law_two, law_join, law_as};
+ghost use Rattle.table.specs.Operators.{kind_of};
+ghost use Rattle.simplify.specs.Code.Law.{is, constant, over_one, is_inside, left_stays, law_not, law_one_by, law_two, law_join, law_as};
 
 use crate::Outcome;
-use table::Node;
+use table::{Node, Operator};
 
-pub(crate) fn constant(kind: u8) -> Node
-    ensures { result ≡ constant kind }
+// A node with no field but its kind.
+pub(crate) fn constant(o: Operator) -> Node
+    ensures { result ≡ constant (kind_of o) }
 {
     Node {
-        kind: kind,
-        arg: 0,
-        lo: 0,
-        hi: 0,
-        left: 0,
-        right: 0,
+        kind: o.kind(),
+        ..Node::FREE
     }
 }
 
-// F F as one F, G G as one G.
-fn merged(n: Node, l: Node) -> Node
-    requires { (n.lo + l.lo < 65536) × (n.hi + l.hi < 65536) }
-    ensures { result ≡ merged n l }
+fn is(o: Operator, n: Node) -> bool
+    ensures { result ≡ is (kind_of o) n }
 {
-    Node {
-        kind: n.kind,
-        arg: 0,
-        lo: n.lo + l.lo,
-        hi: n.hi + l.hi,
-        left: l.left,
-        right: 0,
-    }
+    n.kind == o.kind()
 }
 
 fn law_not(l: Node) -> Outcome
     ensures { result ≡ law_not l }
 {
-    if l.kind == 4 {
-        return Outcome::At(l.left);
+    match Operator::try_from(l.kind) {
+        Ok(Operator::Not) => Outcome::At(l.left),
+        Ok(Operator::True) => Outcome::Put(constant(Operator::False)),
+        Ok(Operator::False) => Outcome::Put(constant(Operator::True)),
+        _ => Outcome::Stay,
     }
-    if l.kind == 2 {
-        return Outcome::Put(constant(3));
-    }
-    if l.kind == 3 {
-        return Outcome::Put(constant(2));
-    }
-    Outcome::Stay
 }
 
-// F, and G: `fixed` is the constant that it leaves as it is.
-fn law_one(fixed: u8, n: Node, l: Node) -> Outcome
-    requires { (n.lo + l.lo < 65536) × (n.hi + l.hi < 65536) }
-    ensures { result ≡ law_one fixed n l }
+// F, and G: `fixed` is the constant that it leaves as it is, `both` the node that stands for n over an l of its kind.
+fn law_one(fixed: Operator, n: Node, l: Node, both: Node) -> Outcome
+    ensures { result ≡ law_one_by (kind_of fixed) n l both }
 {
-    if (n.hi == 0) | (l.kind == fixed) {
+    if (n.hi == 0) | is(fixed, l) {
         return Outcome::At(n.left);
     }
     if l.kind == n.kind {
-        return Outcome::Put(merged(n, l));
+        return Outcome::Put(both);
     }
     Outcome::Stay
 }
 
 // U, and R: `fixed` is the constant on the right that it leaves as it is.
-fn law_two(fixed: u8, n: Node, r: Node) -> Outcome
-    ensures { result ≡ law_two fixed n r }
+fn law_two(fixed: Operator, n: Node, r: Node) -> Outcome
+    ensures { result ≡ law_two (kind_of fixed) n r }
 {
-    if (n.hi == 0) | (r.kind == fixed) {
+    if (n.hi == 0) | is(fixed, r) {
         return Outcome::At(n.right);
     }
     Outcome::Stay
 }
 
-fn over_one(kind: u8, l: Node, r: Node) -> bool
-    ensures { result ≡ over_one kind l r }
+fn over_one(o: Operator, l: Node, r: Node) -> bool
+    ensures { result ≡ over_one (kind_of o) l r }
 {
-    (l.kind == kind) & (r.kind == kind) & (l.left == r.left)
+    is(o, l) & is(o, r) & (l.left == r.left)
 }
 
 fn is_inside(l: Node, r: Node) -> bool
@@ -85,27 +69,52 @@ fn is_inside(l: Node, r: Node) -> bool
     (r.lo <= l.lo) & (l.hi <= r.hi)
 }
 
-// The left operand l has the value of both.
-fn left_stays(neutral: u8, absorbing: u8, inner: u8, outer: u8, l: Node, r: Node) -> bool
-    ensures { result ≡ left_stays neutral absorbing inner outer l r }
-{
-    (r.kind == neutral)
-        | (l.kind == absorbing)
-        | (over_one(inner, l, r) & is_inside(l, r))
-        | (over_one(outer, l, r) & is_inside(r, l))
+// What and, and or, do with their operands: the constants that they drop and that they become, the operators of which the inner and the outer
+// interval stays.
+#[derive(Clone, Copy)]
+struct Join {
+    neutral: Operator,
+    absorbing: Operator,
+    inner: Operator,
+    outer: Operator,
 }
 
-// And, and or: the constants that it drops and that it becomes, the kinds of which the inner and the outer interval stays.
-fn law_join(neutral: u8, absorbing: u8, inner: u8, outer: u8, n: Node, l: Node, r: Node) -> Outcome
-    ensures { result ≡ law_join neutral absorbing inner outer n l r }
-{
-    if (n.left == n.right) | left_stays(neutral, absorbing, inner, outer, l, r) {
-        return Outcome::At(n.left);
+const AND: Join = Join {
+    neutral: Operator::True,
+    absorbing: Operator::False,
+    inner: Operator::Finally,
+    outer: Operator::Globally,
+};
+
+const OR: Join = Join {
+    neutral: Operator::False,
+    absorbing: Operator::True,
+    inner: Operator::Globally,
+    outer: Operator::Finally,
+};
+
+impl Join {
+    // The left operand l has the value of both.
+    fn left_stays(self, l: Node, r: Node) -> bool
+        ensures { result ≡ left_stays (kind_of self.neutral) (kind_of self.absorbing) (kind_of self.inner) (kind_of self.outer) l r }
+    {
+        is(self.neutral, r)
+            | is(self.absorbing, l)
+            | (over_one(self.inner, l, r) & is_inside(l, r))
+            | (over_one(self.outer, l, r) & is_inside(r, l))
     }
-    if left_stays(neutral, absorbing, inner, outer, r, l) {
-        return Outcome::At(n.right);
+
+    fn law(self, n: Node, l: Node, r: Node) -> Outcome
+        ensures { result ≡ law_join (kind_of self.neutral) (kind_of self.absorbing) (kind_of self.inner) (kind_of self.outer) n l r }
+    {
+        if (n.left == n.right) | self.left_stays(l, r) {
+            return Outcome::At(n.left);
+        }
+        if self.left_stays(r, l) {
+            return Outcome::At(n.right);
+        }
+        Outcome::Stay
     }
-    Outcome::Stay
 }
 
 // What the laws make of the node n over the operands l and r.
@@ -113,20 +122,22 @@ pub(crate) fn law(n: Node, l: Node, r: Node) -> Outcome
     requires { (n.lo + l.lo < 65536) × (n.hi + l.hi < 65536) }
     ensures { result ≡ law_as n l r (op_of n.kind) }
 {
-    let stay = Outcome::Stay;
-    let laws = [
-        stay,
-        stay,
-        stay,
-        stay,
-        law_not(l),
-        law_join(2, 3, 7, 8, n, l, r),
-        law_join(3, 2, 8, 7, n, l, r),
-        law_one(3, n, l),
-        law_one(2, n, l),
-        law_two(3, n, r),
-        law_two(2, n, r),
-    ];
-    let k = n.kind as usize;
-    if k < 11 { laws[k] } else { stay }
+    // F F as one F, G G as one G
+    let both = Node {
+        kind: n.kind,
+        lo: n.lo + l.lo,
+        hi: n.hi + l.hi,
+        left: l.left,
+        ..Node::FREE
+    };
+    match Operator::try_from(n.kind) {
+        Ok(Operator::Not) => law_not(l),
+        Ok(Operator::And) => AND.law(n, l, r),
+        Ok(Operator::Or) => OR.law(n, l, r),
+        Ok(Operator::Finally) => law_one(Operator::False, n, l, both),
+        Ok(Operator::Globally) => law_one(Operator::True, n, l, both),
+        Ok(Operator::Until) => law_two(Operator::False, n, r),
+        Ok(Operator::Release) => law_two(Operator::True, n, r),
+        _ => Outcome::Stay,
+    }
 }

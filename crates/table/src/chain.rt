@@ -1,117 +1,109 @@
-// The delays of the nodes along a table, each from those before it; capped. Where `old`, as before A5.
-ghost use Rattle.std.specs.Prelude.{◌≡◌, map, ◌-◌, ◌≤◌, max, get_or, take};
+// Measures of the nodes along a table, such as their delays, each from those before it; capped.
+ghost use Rattle.std.specs.Prelude.{ℕ, ◌≡◌, map, ◌-◌, ◌≤◌, get_or, take};
 ghost use Rattle.limits.specs.Limits.{max_nodes};
-ghost use Rattle.lists.specs.Choice.{pick};
+ghost use Rattle.mltl.specs.Mltl.{Formula};
 ghost use Rattle.lists.specs.Sequence.{every};
-ghost use Rattle.table.specs.Nodes.{measures, wait_of, cap};
-ghost use Rattle.table.specs.Code.Steps.{left_delay, node_delay, node_delay_over};
 ghost use Rattle.table.specs.Sound.{short};
+ghost use Rattle.table.specs.Nodes.{MeasureStep, MeasureLaws, measures, step_at, step_over, cap};
+ghost use Rattle.table.specs.Code.Steps.{left_delay, delay_measure, delay_step};
+ghost use Rattle.table.specs.Code.Laws.{delay_laws};
 
-use crate::{Node, Table, uses_of};
+use crate::{Node, Operator, Table};
 use limits::{MAX_DELAY, MAX_NODES};
 
-// Stands for every delay that is too long.
+// Stands for every measure that is longer than any delay.
 const OVERLONG: u16 = MAX_DELAY + 1;
 
-fn larger(a: u16, b: u16) -> u16
-    ensures { result ≡ max a b }
-{
-    if a < b { b } else { a }
+// A measure of formulas that a node makes of those of its operands.
+pub trait Measure: Copy {
+    ghost of: { Self → Formula → ℕ };
+
+    ghost step: { Self → MeasureStep };
+
+    // The measure of a node, where those of its operands are a and b.
+    fn at_node(self, n: Node, a: u16, b: u16) -> u32
+        ensures { result ≡ step_at (step self) n a b };
+
+    // What each measure must prove.
+    ghost laws: { (m : Self) → MeasureLaws (of m) (step m) };
 }
 
-// A value where it is used, and 0 otherwise.
-fn if_used(used: bool, x: u16) -> u16
-    ensures { result ≡ pick used x 0 }
-{
-    if used { x } else { 0 }
+// How many later states a verdict waits for; where `old`, as before A5.
+#[derive(Clone, Copy)]
+pub struct Delay {
+    pub old: bool,
 }
 
-// One less; 0 stays 0.
-fn less_one(a: u16) -> u16
-    ensures { result ≡ a - 1 }
-{
-    if a < 1 { 0 } else { a - 1 }
+impl Measure for Delay {
+    ghost of = { delay_measure };
+
+    ghost step = { delay_step };
+
+    ghost laws = { delay_laws };
+
+    fn at_node(self, n: Node, a: u16, b: u16) -> u32 {
+        let hi = n.hi as u32;
+        match Operator::try_from(n.kind) {
+            Ok(Operator::Not) => a as u32,
+            Ok(Operator::And | Operator::Or) => a.max(b) as u32,
+            Ok(Operator::Finally | Operator::Globally) => hi + a as u32,
+            Ok(Operator::Until | Operator::Release) => {
+                hi + left_delay(self.old, n, a).max(b) as u32
+            }
+            _ => 0,
+        }
+    }
 }
 
-// What the left operand of a node, whose delay is a, makes it wait beyond hi: all of it where it is read up to hi, else one state less, or none where
-// lo is hi.
+// What the left operand of U or R, whose delay is a, makes it wait beyond hi: all of it where it is read up to hi, else one state less, or none
+// where lo is hi.
 fn left_delay(whole: bool, n: Node, a: u16) -> u16
     ensures { result ≡ left_delay whole n.lo n.hi a }
 {
-    let before = less_one(a);
     if whole {
-        return a;
-    }
-    if n.lo < n.hi { before } else { 0 }
-}
-
-// The delay of a node by those of its operands.
-fn delay_by(old: bool, n: Node, a: u16, b: u16) -> u32
-    ensures { result ≡ node_delay old n a b }
-{
-    let u = uses_of(n.kind);
-    let hi = if_used(u.interval, n.hi);
-    let left = left_delay(old | !(u.interval & u.right), n, a);
-    let d = larger(if_used(u.left, left), if_used(u.right, b));
-    hi as u32 + d as u32
-}
-
-fn capped_delay(old: bool, n: Node, a: u16, b: u16) -> u16
-    ensures { result ≡ cap (node_delay old n a b) }
-{
-    let d = delay_by(old, n, a, b);
-    if d < OVERLONG as u32 {
-        d as u16
+        a
+    } else if n.lo < n.hi {
+        a.saturating_sub(1)
     } else {
-        OVERLONG
+        0
     }
 }
 
-// The delay at a place before `place`, and 0 for any other.
-pub(crate) fn operand_delay(ds: &[u16; MAX_NODES], place: usize, at: u8) -> u16
+// The measure at a place before `place`, and 0 for any other.
+pub fn measure_at(ms: &[u16; MAX_NODES], place: usize, at: u8) -> u16
     requires { place ≤ max_nodes }
-    ensures { result ≡ get_or (take place ds.now) at 0 }
+    ensures { result ≡ get_or (take place ms.now) at 0 }
 {
     let k = at as usize;
-    if k < place { ds[k] } else { 0 }
+    if k < place { ms[k] } else { 0 }
 }
 
-// The delay of the node n at a place, capped, by those before it; 0 at once where it has no operand.
-pub(crate) fn delay_from(old: bool, ds: &[u16; MAX_NODES], place: usize, n: Node) -> u16
+// The measure of the node n at a place, capped, by those before it.
+pub(crate) fn measure_from<M: Measure>(m: M, ms: &[u16; MAX_NODES], place: usize, n: Node) -> u16
     requires { place ≤ max_nodes }
-    ensures { result ≡ cap (node_delay_over old (take place ds.now) n) }
+    ensures { result ≡ cap (step_over (M.step m) (take place ms.now) n) }
 {
-    if n.kind < 4 {
-        return 0;
-    }
-    let a = operand_delay(ds, place, n.left);
-    let b = operand_delay(ds, place, n.right);
-    capped_delay(old, n, a, b)
+    let a = measure_at(ms, place, n.left);
+    let b = measure_at(ms, place, n.right);
+    let whole = m.at_node(n, a, b);
+    whole.min(OVERLONG as u32) as u16
 }
 
-// The delays of all nodes, capped.
-pub(crate) fn all_delays(old: bool, t: Table) -> [u16; MAX_NODES]
-    ensures { result ≡ map cap (measures (wait_of old) t.nodes) }
+// The measures of all nodes, capped.
+pub fn measures<M: Measure>(m: M, t: Table) -> [u16; MAX_NODES]
+    ensures { result ≡ map cap (measures (M.of m) t.nodes) }
 {
-    let mut ds = [0u16; MAX_NODES];
-    let mut i: usize = 0;
-    while i < MAX_NODES {
-        let d = delay_from(old, &ds, i, t.nodes[i]);
-        ds[i] = d;
-        i += 1;
+    let mut ms = [0u16; MAX_NODES];
+    // By index, since each measure is made of those before it in the same array.
+    for i in 0..MAX_NODES {
+        ms[i] = measure_from(m, &ms, i, t.nodes[i]);
     }
-    ds
+    ms
 }
 
-// No delay is too long.
-pub(crate) fn all_short(ds: [u16; MAX_NODES]) -> bool
-    ensures { result ≡ every short 0 ds }
+// No measure is too long.
+pub(crate) fn all_short(ms: &[u16; MAX_NODES]) -> bool
+    ensures { result ≡ every short 0 ms.now }
 {
-    let mut ok = true;
-    let mut i: usize = 0;
-    while i < MAX_NODES {
-        ok = ok & (ds[i] < OVERLONG);
-        i += 1;
-    }
-    ok
+    ms.iter().all(|m| *m < OVERLONG)
 }

@@ -18,8 +18,7 @@ use Rattle.lists.proofs.Tests.{lt_or_le}
 use Rattle.mltl.specs.Mltl.{Formula}
 use Rattle.table.specs.declared.Node.{Node}
 use Rattle.table.specs.declared.Table.{Table}
-use Rattle.builder.specs.declared.Added.{Added}
-use Rattle.builder.specs.Adding.{add_node_rows, adding_node, adding_rule}
+use Rattle.builder.specs.Adding.{Added, add_node_rows, adding_node, adding_rule}
 use Rattle.builder.proofs.Holding.{node_number, node_taken}
 use Rattle.grammar.specs.declared.Item.{Item}
 use Rattle.grammar.specs.declared.Made.{Made}

@@ -13,8 +13,7 @@ use Rattle.table.specs.declared.Table.{Table}
 use Rattle.limits.specs.Limits.{max_depth}
 use Rattle.grammar.specs.Grammar.{Line}
 use Rattle.grammar.specs.Made.{nodes_of}
-use Rattle.text.specs.declared.Typed.{Typed}
-use Rattle.text.specs.Typing.{line_added, typed}
+use Rattle.text.specs.Typing.{Typed, line_added, typed}
 use Rattle.text.specs.Accepted.{Lines, none, more, longest_by, AcceptedBy, Accepted, StaysAccepted}
 use Rattle.text.specs.Outcome.{Reached, begins, goes_on, Outcome, empty, byte, deep, faulty, whole}
 use Rattle.text.proofs.Grows.{Refusal}

@@ -7,15 +7,16 @@ use mathlib.Core.List.{List, ◌∷◌}
 use lib.Dec.{eqb}
 use lib.ListN.{take, drop, set, drop_of_length-le}
 use lib.Seq.{drop-cons}
-use borrow.Author.Tests.{ne_eqb}
+use Rattle.refusals.specs.Refusals.{number_of}
+use Rattle.refusals.specs.declared.Refusal.{Refusal}
+use Rattle.refusals.proofs.Positive.{refuses}
 use Rattle.lists.specs.Choice.{pick, first}
 use Rattle.lists.proofs.Sequences.{length_ticks, get_or_ticks}
 use Rattle.table.specs.declared.Node.{Node}
 use Rattle.table.specs.declared.Rule.{Rule}
 use Rattle.table.specs.declared.Table.{Table}
-use Rattle.builder.specs.declared.Added.{Added}
 use Rattle.table.specs.Nodes.{cap, delay_over}
-use Rattle.builder.specs.Adding.{node_rows_by, add_node_rows, rule_rows_by, with_node, with_rule, adding_node, adding_rule}
+use Rattle.builder.specs.Adding.{Added, node_rows_by, add_node_rows, rule_rows_by, with_node, with_rule, adding_node, adding_rule}
 use Rattle.builder.specs.Built.{Delays}
 use Rattle.builder.proofs.Answers.{refused_is, accepted_is, node_place, rule_place_lem}
 use Rattle.builder.proofs.Over.{number_over, accepted_delays}
@@ -53,28 +54,29 @@ module _ {t : Table} {c : List ℕ} {count base : ℕ} {u : Table} {ds : List �
       ∙ ap (λ (x : Node). let b = adding_node u x in pick (eqb b.number 0) (grown base b.table (drop (k + 1) (mades_of c count))) b) (sym j)
       ∙ ap (λ (b : Added). pick (eqb b.number 0) (grown base b.table (drop (k + 1) (mades_of c count))) b) (sym l)
 
-  pub grown_bad : ¬ (f ≡ 0) → added f u ≡ grown base t (mades_of c count)
+  pub grown_bad : (r : Refusal) → number_of r ≡ f → added (number_of r) u ≡ grown base t (mades_of c count)
   unfolding adding_node
-  grown_bad z = sym (one_more (added f u) (refused_is u (with_node u n) number_is z) ∙ (rw (ne_eqb f 0 z)))
+  grown_bad r z = sym (one_more (added (number_of r) u) (refused_is u (with_node u n) r (z ∙ number_is)) ∙ (rw (refuses r)))
 
-  pub node_room : f ≡ 0 → u.node_count < 64
+  pub node_room : 0 ≡ f → u.node_count < 64
   node_room z = node_place u.node_count d n e z
 
-  pub grown_more : f ≡ 0 → Grown t c count base (with_node u n) (set ds u.node_count d) (k + 1)
+  pub grown_more : 0 ≡ f → Grown t c count base (with_node u n) (set ds u.node_count d) (k + 1)
   unfolding adding_node
   grown_more z =
-      let taken : added 0 (with_node u n) ≡ adding_node u n = accepted_is u (with_node u n) number_is z in
+      let taken : added 0 (with_node u n) ≡ adding_node u n = accepted_is u (with_node u n) (z ∙ number_is) in
       record {
         below = omega arith;
         same = one_more (added 0 (with_node u n)) taken;
-        delays = rw v (subst (λ (a : Added). Delays a.table (set ds u.node_count (cap (delay_over (take 64 ds) n)))) (sym taken) (accepted_delays u ds n g.delays (sym number_is ∙ z)));
+        delays = rw v (subst (λ (a : Added). Delays a.table (set ds u.node_count (cap (delay_over (take 64 ds) n)))) (sym taken) (accepted_delays u ds n g.delays (sym (z ∙ number_is))));
       }
 
 -- ---- the line
 -- a line whose node is refused
-pub line_bad : (t : Table) (ms : List Made) (name : ℕ) {f : ℕ} {u : Table} → ¬ (f ≡ 0) → added f u ≡ grown t.node_count t ms → added f u ≡ line_added t name ms
+pub line_bad : (t : Table) (ms : List Made) (name : ℕ) (r : Refusal) {u : Table} → added (number_of r) u ≡ grown t.node_count t ms
+    → added (number_of r) u ≡ line_added t name ms
 unfolding line_added
-line_bad t ms name {f} {u} z e = sym (rw (ne_eqb f 0 z)) ∙ ap (λ (x : Added). ruled x name) e
+line_bad t ms name r {u} e = sym (rw (refuses r)) ∙ ap (λ (x : Added). ruled x name) e
 
 -- the rule, behind all nodes
 module _ {t : Table} {c : List ℕ} {count : ℕ} {u : Table} {ds : List ℕ} {k : ℕ} (g : Grown t c count t.node_count u ds k) (h : count ≤ k) (name : ℕ) {r : Rule} {f : ℕ}
@@ -89,16 +91,16 @@ module _ {t : Table} {c : List ℕ} {count : ℕ} {u : Table} {ds : List ℕ} {k
   unfolding line_added
   then_is = ap (adding_rule u) i ∙ ap (λ (x : Added). ruled x name) all
 
-  pub rule_bad : ¬ (f ≡ 0) → added f u ≡ line_added t name (mades_of c count)
+  pub rule_bad : (x : Refusal) → number_of x ≡ f → added (number_of x) u ≡ line_added t name (mades_of c count)
   unfolding adding_rule
-  rule_bad z = refused_is u (with_rule u r) e z ∙ then_is
+  rule_bad x z = refused_is u (with_rule u r) x (z ∙ e) ∙ then_is
 
-  pub rule_room : f ≡ 0 → u.rule_count < 8
+  pub rule_room : 0 ≡ f → u.rule_count < 8
   rule_room z = rule_place_lem u r e z
 
-  pub line_done : f ≡ 0 → added 0 (with_rule u r) ≡ line_added t name (mades_of c count)
+  pub line_done : 0 ≡ f → added 0 (with_rule u r) ≡ line_added t name (mades_of c count)
   unfolding adding_rule
-  line_done z = accepted_is u (with_rule u r) e z ∙ then_is
+  line_done z = accepted_is u (with_rule u r) (z ∙ e) ∙ then_is
 
   pub rule_delays : Delays (with_rule u r) ds
   rule_delays = let d = g.delays in record { places = d.places; node_places = d.node_places; node = d.node }

@@ -20,8 +20,7 @@ use Rattle.table.specs.declared.Node.{Node}
 use Rattle.table.specs.declared.Rule.{Rule}
 use Rattle.table.specs.declared.Table.{Table}
 use Rattle.table.proofs.Delays.{delay_of_lem}
-use Rattle.builder.specs.declared.Added.{Added}
-use Rattle.builder.specs.Adding.{bad_signal, bad_operand, too_long, add_node_rows, adding_node}
+use Rattle.builder.specs.Adding.{Added, bad_signal, bad_operand, too_long, add_node_rows, adding_node}
 use Rattle.builder.specs.Built.{table_holding}
 use Rattle.builder.proofs.Holding.{delay_held, node_held, node_number, node_taken}
 use Rattle.builder.proofs.Sound.{uses_arg, node_room, node_short}

@@ -18,8 +18,7 @@ use Rattle.table.specs.Nodes.{no_rule, formula_at}
 use Rattle.table.specs.declared.Node.{Node}
 use Rattle.table.specs.declared.Rule.{Rule}
 use Rattle.table.specs.declared.Table.{Table}
-use Rattle.builder.specs.declared.Added.{Added}
-use Rattle.builder.specs.Adding.{bad_name, name_used, adding_rule}
+use Rattle.builder.specs.Adding.{Added, bad_name, name_used, adding_rule}
 use Rattle.builder.specs.Built.{table_holding}
 use Rattle.builder.proofs.Holding.{names, name_held_lem, rule_held, rule_number_lem, rule_taken}
 use Rattle.builder.proofs.Sound.{rule_fits, rule_room, rule_new}

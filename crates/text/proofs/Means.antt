@@ -15,7 +15,7 @@ use Rattle.mltl.specs.Mltl.{Formula, const}
 use Rattle.table.specs.Nodes.{no_node, no_rule, formula_over, formula_at}
 use Rattle.table.specs.declared.Rule.{Rule}
 use Rattle.table.specs.declared.Table.{Table}
-use Rattle.builder.specs.declared.Added.{Added}
+use Rattle.builder.specs.Adding.{Added}
 use Rattle.builder.specs.Built.{table_holding}
 use Rattle.grammar.specs.Made.{nodes_of}
 use Rattle.text.specs.Typing.{added, line_added}

@@ -8,10 +8,9 @@ use Rattle.refusals.specs.Numbers.{ARGUMENT, INTERVAL, FULL, LONG, NAME, RULELES
 use Rattle.lists.specs.Sequence.{among}
 use Rattle.mltl.specs.Mltl.{Formula}
 use Rattle.table.specs.declared.Table.{Table}
-use Rattle.builder.specs.declared.Added.{Added}
+use Rattle.builder.specs.Adding.{Added}
 use Rattle.grammar.specs.Made.{nodes_of}
-use Rattle.text.specs.declared.Typed.{Typed}
-use Rattle.text.specs.Typing.{line_added, typed}
+use Rattle.text.specs.Typing.{Typed, line_added, typed}
 use Rattle.text.specs.Outcome.{Reached, line_faults, Outcome, empty, byte, deep, faulty, whole}
 use Rattle.text.proofs.Grows.{Refusal}
 use Rattle.text.proofs.Holds.{Line, taken, turned, line}

@@ -14,7 +14,7 @@ use Rattle.lists.specs.Choice.{pick}
 use Rattle.mltl.specs.Mltl.{const}
 use Rattle.table.specs.Nodes.{no_table}
 use Rattle.table.specs.declared.Table.{Table}
-use Rattle.builder.specs.declared.Added.{Added}
+use Rattle.builder.specs.Adding.{Added}
 use Rattle.grammar.specs.declared.Made.{Made}
 use Rattle.grammar.specs.Machine.{Fate, Fault, Finished, begin, trees}
 use Rattle.grammar.specs.Made.{lists, nodes_of}
@@ -22,8 +22,7 @@ use Rattle.grammar.proofs.Runs.{pick_false, accepted as ran}
 use Rattle.grammar.proofs.Earliest.{earliest_32, earliest_33}
 use Rattle.grammar.proofs.Numbers.{fault_number}
 use Rattle.parser.proofs.Promise.{lists_fault, LineTold, lists_told}
-use Rattle.text.specs.declared.Typed.{Typed}
-use Rattle.text.specs.Typing.{added, line_added, refused, after_line, typed_from, typed}
+use Rattle.text.specs.Typing.{Typed, added, line_added, refused, after_line, typed_from, typed}
 use Rattle.text.specs.Outcome.{Reached, begins, goes_on, Outcome, empty, byte, deep, faulty, whole}
 use Rattle.text.proofs.Runs.{line_fate, onward, shorter}
 

@@ -8,14 +8,13 @@ use lib.ListN.{length, drop, length-drop, drop_of_length-le}
 use borrow.Author.Tests.{eq-eqb, ne_eqb}
 use Rattle.refusals.specs.Numbers.{RULELESS}
 use Rattle.table.specs.declared.Table.{Table}
-use Rattle.builder.specs.declared.Added.{Added}
+use Rattle.builder.specs.Adding.{Added}
 use Rattle.grammar.specs.Made.{nodes_of}
 use Rattle.grammar.specs.Tape.{Tape, tape}
 use Rattle.grammar.proofs.Runs.{pick_true, pick_false}
 use Rattle.parser.specs.Reads.{LineRead}
 use Rattle.parser.proofs.Promise.{line_listed, line_unlisted, line_count}
-use Rattle.text.specs.declared.Typed.{Typed}
-use Rattle.text.specs.Typing.{line_added, refused, accepted, typed, mades_of}
+use Rattle.text.specs.Typing.{Typed, line_added, refused, accepted, typed, mades_of}
 use Rattle.text.proofs.Decoded.{line_decoded}
 use Rattle.text.proofs.Runs.{added_then, Run, run_end, Turn, turn, fated}
 

@@ -11,7 +11,7 @@ use Rattle.lists.specs.Choice.{pick}
 use Rattle.mltl.specs.Mltl.{Formula}
 use Rattle.table.specs.Nodes.{no_table}
 use Rattle.table.specs.declared.Table.{Table}
-use Rattle.builder.specs.declared.Added.{Added}
+use Rattle.builder.specs.Adding.{Added}
 use Rattle.grammar.specs.Grammar.{Line}
 use Rattle.grammar.specs.declared.Made.{Made}
 use Rattle.grammar.specs.Machine.{Fate, Finished, fate, begin}
@@ -19,8 +19,7 @@ use Rattle.grammar.specs.Made.{lists, nodes_of}
 use Rattle.grammar.proofs.Runs.{pick_false, front, accepted as ran}
 use Rattle.grammar.proofs.Complete.{completes}
 use Rattle.parser.proofs.Promise.{lists_exact}
-use Rattle.text.specs.declared.Typed.{Typed}
-use Rattle.text.specs.Typing.{added, line_added, refused, accepted, after_line, typed_from, typed}
+use Rattle.text.specs.Typing.{Typed, added, line_added, refused, accepted, after_line, typed_from, typed}
 use Rattle.text.specs.Outcome.{Reached, begins, goes_on}
 
 -- what becomes of the line at the place i

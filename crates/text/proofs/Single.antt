@@ -17,8 +17,7 @@ use Rattle.grammar.proofs.Earliest.{earliest_32, earliest_33}
 use Rattle.grammar.proofs.Unique.{one_place, one_place_33, never_both}
 use Rattle.grammar.proofs.Numbers.{fault_number}
 use Rattle.parser.proofs.Promise.{lists_fault, lists_told}
-use Rattle.text.specs.declared.Typed.{Typed}
-use Rattle.text.specs.Typing.{refused, typed}
+use Rattle.text.specs.Typing.{Typed, refused, typed}
 use Rattle.text.specs.Outcome.{Reached, Outcome, empty, byte, deep, faulty, whole}
 use Rattle.text.proofs.Means.{reached_means}
 use Rattle.text.proofs.Runs.{line_fate, behind, line_shorter, Run, run_end, turn, fated, line_refused, runs}

@@ -9,14 +9,12 @@ use borrow.Author.Tests.{eqb-true, eqb-false}
 use Rattle.lists.specs.Choice.{pick}
 use Rattle.table.specs.Sound.{Sound}
 use Rattle.table.specs.declared.Table.{Table}
-use Rattle.builder.specs.declared.Added.{Added}
-use Rattle.builder.specs.Adding.{adding_node, adding_rule}
+use Rattle.builder.specs.Adding.{Added, adding_node, adding_rule}
 use Rattle.builder.specs.Built.{Built, none, node, rule}
 use Rattle.builder.proofs.Holding.{rule_taken}
 use Rattle.builder.proofs.Sound.{built_sound}
 use Rattle.grammar.specs.declared.Made.{Made}
-use Rattle.text.specs.declared.Typed.{Typed}
-use Rattle.text.specs.Typing.{node_of, added, grown, rule_of, line_added, typed}
+use Rattle.text.specs.Typing.{Typed, node_of, added, grown, rule_of, line_added, typed}
 use Rattle.text.specs.Outcome.{Reached, begins, goes_on, Outcome, empty, byte, deep, faulty, whole}
 use Rattle.text.proofs.Forms.{Forms, none as no-forms, more, node_form, formula_forms}
 use Rattle.text.proofs.Outcomes.{outcome}

@@ -5,8 +5,7 @@ use mathlib.Core.Path.{◌≡◌, sym, ap, subst, ◌∙◌}
 use mathlib.Core.List.{List, []}
 use Rattle.mltl.specs.Mltl.{Formula}
 use Rattle.table.specs.declared.Table.{Table}
-use Rattle.text.specs.declared.Typed.{Typed}
-use Rattle.text.specs.Typing.{typed}
+use Rattle.text.specs.Typing.{Typed, typed}
 use Rattle.text.specs.Accepted.{Lines, none, more}
 use Rattle.text.specs.Outcome.{Watches, empty, faulty, whole}
 use Rattle.text.proofs.Grows.{refused_number}

@@ -4,3 +4,5 @@ pub mod Typing
 pub mod Accepted
 -- what reading a text comes to, by the grammar; what its table means
 pub mod Outcome
+-- what only the steps of the code are about: no other crate names it
+pub mod Code

@@ -7,8 +7,7 @@ use Rattle.table.specs.Nodes.{no_table, rule_at, watched_formula}
 use Rattle.table.specs.declared.Table.{Table}
 use Rattle.grammar.specs.Grammar.{Line, Fault32, Fault33}
 use Rattle.grammar.specs.Made.{nodes_of}
-use Rattle.text.specs.declared.Typed.{Typed}
-use Rattle.text.specs.Typing.{added, line_added, refused, accepted}
+use Rattle.text.specs.Typing.{Typed, added, line_added, refused, accepted}
 
 -- some whole lines of the text are read into the table t; what is left of it is bs, from the place i on, and its first line has the
 -- number `line`

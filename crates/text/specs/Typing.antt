@@ -1,19 +1,20 @@
 -- What typed lines yield: a table, or a refusal with its number, and the place of a fault of syntax or the line of any other fault.
-use Rattle.std.specs.Prelude.{ℕ, zero, suc, ◌+◌, ◌*◌, ◌-◌, min, List, [], ◌∷◌, leb, eqb, length, get_or}
+use Rattle.std.specs.Prelude.{ℕ, zero, suc, ◌+◌, ◌*◌, ◌-◌, min, List, [], ◌∷◌, leb, eqb, length, get_or, ◌≡◌, Result, Ok, Err}
 use Rattle.limits.specs.Limits.{max_depth, max_name}
 use Rattle.refusals.specs.Numbers.{RULELESS}
+use Rattle.refusals.specs.Refusals.{number_of}
 use Rattle.lists.specs.Choice.{pick}
 use Rattle.lists.specs.Sequence.{ticks}
 use Rattle.table.specs.Nodes.{op_of, uses_of, no_table}
 use Rattle.table.specs.declared.Node.{Node}
 use Rattle.table.specs.declared.Rule.{Rule}
 use Rattle.table.specs.declared.Table.{Table}
-use Rattle.builder.specs.declared.Added.{Added}
-use Rattle.builder.specs.Adding.{adding_node, adding_rule}
+use Rattle.builder.specs.Adding.{Added, adding_node, adding_rule}
 use Rattle.grammar.specs.declared.Made.{Made}
 use Rattle.grammar.specs.Machine.{item, Fate, Fault, Finished, fate, begin}
 use Rattle.grammar.specs.Made.{made, lists}
-use Rattle.text.specs.declared.Typed.{Typed}
+use Rattle.text.specs.declared.Fault.{Fault as TextFault}
+use Rattle.parser.specs.declared.faults.Fault.{Fault as LineFault}
 
 -- a number held at the most that a byte, or two bytes, hold: what is above a limit stays above it
 abbrev pub in_byte : ℕ → ℕ
@@ -61,12 +62,26 @@ ruled a name = pick (eqb a.number 0) (adding_rule a.table (rule_of a.table name)
 unfoldable pub line_added : Table → ℕ → List Made → Added
 line_added t name ms = ruled (grown t.node_count t ms) name
 
--- ---- the text
+-- ---- the text: the number of a refusal, its place or line and no table, or 0, 0 and the table
+pub record Typed : Type 0 where
+  pub number : ℕ
+  pub place : ℕ
+  pub table : Table
+
 abbrev pub refused : ℕ → ℕ → Typed
 refused n p = record { number = n; place = p; table = no_table }
 
 abbrev pub accepted : Table → Typed
 accepted t = record { number = 0; place = 0; table = t }
+
+-- what an answer of the code says
+abbrev pub typed_told : Result Table TextFault → Typed
+typed_told (Ok t) = accepted t
+typed_told (Err f) = refused (number_of f.refusal) f.place
+
+-- the fault of a line in a text
+abbrev pub Placed : LineFault → TextFault → Type 0
+Placed f g = g ≡ record { refusal = f.refusal; place = f.at }
 
 -- what a line's fate comes to, where `rest` reads the lines behind it
 abbrev pub after_line : ℕ → Table → Fate (List Made) → (Table → ℕ → List ℕ → Typed) → Typed

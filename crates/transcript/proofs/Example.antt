@@ -7,8 +7,7 @@ use Rattle.lists.specs.Sequence.{every, chain}
 use Rattle.mltl.specs.Mltl.{holds, delay_by, some_from, some_tick, every_tick, eventually, until, opposite, always, release}
 use Rattle.book.specs.Entries.{uses_in}
 use Rattle.book.specs.Reading.{reading, reading_by, head_fault, fault_by, along_by}
-use Rattle.simplify.specs.declared.Simplified.{Simplified}
-use Rattle.simplify.specs.Promise.{Promised}
+use Rattle.simplify.specs.Promise.{Simplified, Promised}
 use Rattle.session.specs.Session.{opening}
 use Rattle.mission.specs.Mission.{Start}
 use Rattle.mission.specs.Mission as mission

@@ -6,9 +6,9 @@ use mathlib.Core.Bool.{◌&&◌, Bool, false, true}
 use mathlib.Core.List.{◌++◌, List}
 use mathlib.Core.Logic.{⊎_elim}
 use mathlib.Core.Path.{refl, ap, ap₂, sym, ◌∙◌, ◌≡◌}
-use borrow.Author.Tests.{le-leb, le-ltb, leb-false, leb-true, lt-leb, lt-ltb, ltb-false, ltb-true, ne_eqb, not-false}
+use borrow.Author.Tests.{le-leb, le-ltb, leb-false, leb-true, lt-ltb, ltb-false, ltb-true, ne_eqb, not-false}
 use borrow.Rule.Slice.PartMut.{mid_of, put_mid}
-use lib.Dec.{eqb, leb, ltb}
+use lib.Dec.{eqb, ltb}
 use lib.ListN.{drop, get_or, length, length-append, length-take, replicate, take}
 use lib.Seq.{drop-paste, get_or-take, paste, take_all, take-paste, take-take}
 use Rattle.limits.specs.Limits.{register_words}
@@ -76,21 +76,8 @@ cleared_is xs ys h e d = ap₂ (λ (a b : List ℕ). a ++ b) (e ∙ ap (λ (n : 
 
 -- ---- when a call is ready
 module _ (t : Table) (k : ℕ) where
-  pub far : 64 ≤ k → false ≡ fits_to t k
-  far h = rw (le-ltb k 64 h)
-
   pub near : {ok : Bool} → k < 64 → ok ≡ every fits 0 (take (k + 1) t.nodes) → ok ≡ fits_to t k
   near h e = rw (lt-ltb k 64 h) e
-
-module _ (states count scratch out : ℕ) where
-  pub too_many : 5120 < states → false ≡ enough states count scratch out
-  too_many h = rw (lt-leb states 5120 h)
-
-  pub too_few : states ≤ 5120 → states < count → false ≡ enough states count scratch out
-  too_few h k = rw (le-leb states 5120 h, lt-leb count states k)
-
-  pub few_enough : states ≤ 5120 → count ≤ states → (leb 5280 scratch && leb (words count) out) ≡ enough states count scratch out
-  few_enough h k = rw (le-leb states 5120 h, le-leb count states k)
 
 pub ready_is : (t : Table) (k : ℕ) (older newer : List ℕ) (count : ℕ) (scratch out : List ℕ) {f r : Bool} → f ≡ fits_to t k
     → r ≡ enough (length older + length newer) count (length scratch) (length out) → (f && r) ≡ ready t k (older ++ newer) count scratch out

@@ -1,21 +1,20 @@
 -- The column of a node is its formula's verdicts. Assumes nothing.
 use mathlib.Core.Path.{◌≡◌, refl, sym, ap, ap₂, ◌∙◌}
 use mathlib.Core.Logic.{⊎_elim}
-use mathlib.Core.Bool.{Bool, true, false, not, ◌||◌, ◌&&◌, false≢true, and-true, and-false}
+use mathlib.Core.Bool.{Bool, true, false, not, ◌||◌, ◌&&◌, and-true, and-false}
 use mathlib.Core.List.{List}
-use Prim.Native.Nat.{ℕ, zero, suc, ◌*◌, ◌≤◌, ◌<◌}
+use Prim.Native.Nat.{ℕ, ◌*◌, ◌≤◌, ◌<◌}
 use native.Mathlib.Omega.{arith}
-use borrow.Author.Tests.{le-ltb, ne_eqb}
-use lib.Dec.{ltb, leb, eqb}
+use borrow.Author.Tests.{le-ltb}
+use lib.Dec.{ltb}
 use lib.ListN.{length, get_or, get_or-eq_default}
 use Rattle.lists.specs.Bits.{bit, bit_at, words, pack, packed, below}
-use Rattle.lists.specs.Choice.{pick}
 use Rattle.lists.proofs.Tests.{lt_or_le}
 use Rattle.lists.proofs.Bits.{bit_none}
 use Rattle.lists.proofs.Columns.{pack_ext}
 use Rattle.mltl.specs.Mltl.{Formula, holds, eventually, until, opposite, always, release}
-use Rattle.column.specs.Column.{flipped, filled}
-use Rattle.table.specs.Nodes.{Op, Unknown, Signal, Top, Bottom, Not, And, Or, Finally, Globally, Until, Release, op_of, uses_of, formula_as}
+use Rattle.column.specs.Column.{flipped}
+use Rattle.table.specs.Nodes.{Op, Unknown, Signal, Top, Bottom, Not, And, Or, Finally, Globally, Until, Release, uses_of, formula_as}
 use Rattle.table.specs.declared.Node.{Node}
 use Rattle.layout.proofs.Columns.{below_past, below_in, bit_at_packed, until_below, eventually_below}
 use Rattle.verdict.specs.Code.Steps.{node_column}
@@ -99,32 +98,3 @@ module _ (x : Node) (i n : ℕ) (trace : List ℕ) (C D : List ℕ) (fa fb : For
       → pack (words n) (node_column o x n trace C D) ≡ packed n (holds (formula_as o x fa fb) trace)
   unfolding packed
   column_is o l r = pack_ext (words n) _ _ (λ t h. at o l r t)
-
--- ---- kinds
--- of F, G, U and R the last
-pub kind_last : {k : ℕ} → 7 ≤ k → k ≤ 10 → (k ≡ 7 → ⊥) → (k ≡ 8 → ⊥) → (k ≡ 9 → ⊥) → k ≡ 10
-kind_last a b x y z = omega arith
-
--- a kind that is none of these is a constant
-constant : (k : ℕ) → (k ≡ 1 → ⊥) → (k ≡ 4 → ⊥) → (k ≡ 5 → ⊥) → (k ≡ 6 → ⊥) → (k ≡ 7 → ⊥) → (k ≡ 8 → ⊥) → (k ≡ 9 → ⊥) → (k ≡ 10 → ⊥)
-    → (x : Node) (n : ℕ) (states c d : List ℕ) → ◌≡◌ {A = ℕ → Bool} (filled (pick (eqb k 2) n 0)) (node_column (op_of k) x n states c d)
-constant zero a b e f g h i j x n states c d = refl
-constant (suc zero) a b e f g h i j x n states c d = absurd (a refl)
-constant (suc (suc zero)) a b e f g h i j x n states c d = refl
-constant (suc (suc (suc zero))) a b e f g h i j x n states c d = refl
-constant (suc (suc (suc (suc zero)))) a b e f g h i j x n states c d = absurd (b refl)
-constant (suc (suc (suc (suc (suc zero))))) a b e f g h i j x n states c d = absurd (e refl)
-constant (suc (suc (suc (suc (suc (suc zero)))))) a b e f g h i j x n states c d = absurd (f refl)
-constant (suc (suc (suc (suc (suc (suc (suc zero))))))) a b e f g h i j x n states c d = absurd (g refl)
-constant (suc (suc (suc (suc (suc (suc (suc (suc zero)))))))) a b e f g h i j x n states c d = absurd (h refl)
-constant (suc (suc (suc (suc (suc (suc (suc (suc (suc zero))))))))) a b e f g h i j x n states c d = absurd (i refl)
-constant (suc (suc (suc (suc (suc (suc (suc (suc (suc (suc zero)))))))))) a b e f g h i j x n states c d = absurd (j refl)
-constant (suc (suc (suc (suc (suc (suc (suc (suc (suc (suc (suc k))))))))))) a b e f g h i j x n states c d =
-    ap (λ (z : Bool). filled (pick z n 0)) (ne_eqb (suc (suc (suc (suc (suc (suc (suc (suc (suc (suc (suc k))))))))))) 2 (λ z. omega arith))
-
-pub other : (k : ℕ) → (k ≡ 1 → ⊥) → (k ≡ 4 → ⊥) → (k ≡ 5 → ⊥) → (k ≡ 6 → ⊥) → (leb 7 k && leb k 10) ≡ false
-    → (x : Node) (n : ℕ) (states c d : List ℕ) → ◌≡◌ {A = ℕ → Bool} (filled (pick (eqb k 2) n 0)) (node_column (op_of k) x n states c d)
-other k a b e f h = constant k a b e f (past 7 refl) (past 8 refl) (past 9 refl) (past 10 refl)
-  where
-    past : (j : ℕ) → (leb 7 j && leb j 10) ≡ true → k ≡ j → ⊥
-    past j t q = false≢true (sym h ∙ ap (λ (i : ℕ). leb 7 i && leb i 10) q ∙ t)

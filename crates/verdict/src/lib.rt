@@ -5,96 +5,38 @@ ghost use Rattle.std.specs.Prelude.{◌≡◌, List, ◌++◌, ℕ, ◌+◌, ◌
 ghost use Rattle.std.proofs.Math.Seq.{paste};
 ghost use Rattle.limits.specs.Limits.{register_words, scratch_words};
 ghost use Rattle.lists.specs.Bits.{words};
+ghost use Rattle.refusals.specs.Refusals.{number};
 ghost use Rattle.lists.specs.Choice.{first};
 ghost use Rattle.column.specs.Column.{register};
 ghost use Rattle.verdict.specs.Verdict.{with_verdicts, cleared, fits_to, enough, Judged, whole_rows, Answered};
 ghost use Rattle.table.specs.Nodes.{formula_at};
 ghost use Rattle.layout.specs.Layout.{Step, Computable, Runnable};
-ghost use Rattle.verdict.specs.Code.Steps.{Maybe, column_in, Columns, Judgeable};
+ghost use Rattle.verdict.specs.Code.Steps.{column_in, Columns, Judgeable};
 
-use layout::{LEFT, WORK};
-use limits::{MAX_NODES, MAX_TRACE, REGISTER_WORDS, SCRATCH_WORDS};
-use table::{Node, Table};
+use limits::{MAX_NODES, MAX_TRACE, SCRATCH_WORDS};
+use refusals::Refusal;
+use table::{Node, Operator, Table};
 
-// ---- nodes: m words of each register are used
-
-// The column of node x at place i, whose kind is F, G, U or R. No state is read.
-fn window_step(s: &mut [u64], x: Node, i: usize, n: usize)
-    requires { Computable scratch_words i n x s.old × (7 ≤ x.kind) × (x.kind ≤ 10) }
-    ensures { (states : List ℕ) → Step (register_words * i) (words n) (column_in x n states s.old) s.old s.new }
-{
-    let m = (n + 63) / 64;
-    let b = REGISTER_WORDS * i;
-    let a = REGISTER_WORDS * (x.left as usize);
-    let c = REGISTER_WORDS * (x.right as usize);
-    let k = x.kind;
-    let lo = x.lo;
-    let hi = x.hi;
-    if k == 7 {
-        operators::put_some(s, a, b, m, lo, hi);
-        return;
-    }
-    if k == 8 {
-        operators::put_all(s, a, b, m, lo, hi, n);
-        return;
-    }
-    if k == 9 {
-        operators::put_until(s, a, c, b, LEFT, WORK, m, lo, hi);
-        return;
-    }
-    operators::put_release(s, a, c, b, LEFT, WORK, m, lo, hi, n);
-}
-
-// The column of node x at place i, of any kind but a signal. No state is read.
-fn stateless_step(s: &mut [u64], x: Node, i: usize, n: usize)
-    requires { Computable scratch_words i n x s.old × (x.kind ≡ 1 → ⊥) }
-    ensures { (states : List ℕ) → Step (register_words * i) (words n) (column_in x n states s.old) s.old s.new }
-{
-    let m = (n + 63) / 64;
-    let b = REGISTER_WORDS * i;
-    let a = REGISTER_WORDS * (x.left as usize);
-    let c = REGISTER_WORDS * (x.right as usize);
-    let k = x.kind;
-    if (7 <= k) & (k <= 10) {
-        window_step(s, x, i, n);
-        return;
-    }
-    if k == 4 {
-        operators::put_not(s, a, b, m, n);
-        return;
-    }
-    if k == 5 {
-        operators::put_and(s, a, c, b, m);
-        return;
-    }
-    if k == 6 {
-        operators::put_or(s, a, c, b, m);
-        return;
-    }
-    operators::put_fill(s, b, m, layout::bits_of(k, n));
-}
+// ---- nodes
 
 // The column of node x at place i.
-fn node_step(s: &mut [u64], x: Node, i: usize, n: usize, older: &[u32], newer: &[u32])
+fn node_step(s: &mut [u64], x: Node, i: u8, n: usize, older: &[u32], newer: &[u32])
     requires { Computable scratch_words i n x s.old }
     ensures { Step (register_words * i) (words n) (column_in x n (older.now ++ newer.now) s.old) s.old s.new }
 {
-    let m = (n + 63) / 64;
-    let b = REGISTER_WORDS * i;
-    if x.kind == 1 {
-        operators::put_signal(s, b, m, older, newer, x.arg);
-        return;
-    }
-    stateless_step(s, x, i, n);
-}
-
-// The column of node x at place i, where `on`.
-fn step_if(on: bool, s: &mut [u64], x: Node, i: usize, n: usize, older: &[u32], newer: &[u32])
-    requires { Computable scratch_words i n x s.old }
-    ensures { Maybe on (register_words * i) (words n) (column_in x n (older.now ++ newer.now) s.old) s.old s.new }
-{
-    if on {
-        node_step(s, x, i, n, older, newer);
+    let p = layout::places(x, i, n);
+    let m = p.words;
+    match Operator::try_from(x.kind) {
+        Ok(Operator::Signal) => operators::put_signal(s, p.result, m, older, newer, x.arg),
+        Ok(Operator::True) => operators::put_fill(s, p.result, m, n),
+        Ok(Operator::False) | Err(_) => operators::put_fill(s, p.result, m, 0),
+        Ok(Operator::Not) => operators::put_not(s, p.left, p.result, m, n),
+        Ok(Operator::And) => operators::put_and(s, p.left, p.right, p.result, m),
+        Ok(Operator::Or) => operators::put_or(s, p.left, p.right, p.result, m),
+        Ok(Operator::Finally) => operators::put_some(s, p.left, p.result, m, x.lo, x.hi),
+        Ok(Operator::Globally) => operators::put_all(s, p.left, p.result, m, x.lo, x.hi, n),
+        Ok(Operator::Until) => operators::put_until(s, p, x.lo, x.hi),
+        Ok(Operator::Release) => operators::put_release(s, p, x.lo, x.hi, n),
     }
 }
 
@@ -106,9 +48,12 @@ fn run(t: Table, marks: u64, upto: usize, older: &[u32], newer: &[u32], s: &mut 
     ensures { Columns upto t.nodes marks (older.now ++ newer.now) s.old s.new }
 {
     let n = older.len() + newer.len();
+    // i is the place of the node and of its mark.
     for i in 0..upto {
         let x = t.nodes[i];
-        step_if(needed::is_marked(marks, i), s, x, i, n, older, newer);
+        if needed::is_marked(marks, i) {
+            node_step(s, x, i as u8, n, older, newer);
+        }
     }
 }
 
@@ -117,9 +62,7 @@ fn copy_out(s: &[u64], b: usize, m: usize, out: &mut [u64])
     requires { (b + m ≤ length s.now) × (m ≤ length out.old) }
     ensures { out.new ≡ paste out.old 0 (register b m s.now) m }
 {
-    for w in 0..m {
-        out[w] = s[b + w];
-    }
+    out[..m].copy_from_slice(&s[b..b + m]);
 }
 
 // The verdicts of node k at the first `count` ticks, with the scratch cleared.
@@ -135,13 +78,13 @@ fn evaluate(
     requires { Judgeable t.nodes k (older.now ++ newer.now) count scratch.old out.old }
     ensures { (out.new ≡ with_verdicts (formula_at t.nodes k) (older.now ++ newer.now) count out.old) × (scratch.new ≡ cleared scratch.old) }
 {
-    let m = (count + 63) / 64;
+    let m = layout::words_of(count);
     let nodes = t.nodes;
     let marks = needed::needed_for(nodes, k);
     run(t, marks, k + 1, older, newer, scratch);
-    copy_out(scratch, REGISTER_WORDS * k, m, out);
+    copy_out(scratch, layout::place_of(k as u8), m, out);
     column::keep_below(&mut out[0..m], count);
-    column::clear(&mut scratch[0..SCRATCH_WORDS]);
+    scratch[..SCRATCH_WORDS].fill(0);
 }
 
 // Whether every node up to place k keeps the limits at its place.
@@ -151,29 +94,21 @@ fn fits_to(t: Table, k: usize) -> bool
     if MAX_NODES <= k {
         return false;
     }
-    let e = k + 1;
-    for i in 0..e {
-        if !table::node_fits(t.nodes[i], i) {
-            return false;
-        }
-    }
-    true
+    t.nodes[..k + 1]
+        .iter()
+        .enumerate()
+        .all(|(i, x)| table::node_fits(*x, i))
 }
 
 // Whether the states are few enough, and enough for the verdicts, and the lent words enough for them.
 fn has_enough(older: usize, newer: usize, count: usize, scratch: usize, out: usize) -> bool
     ensures { result ≡ enough (older + newer) count scratch out }
 {
-    if MAX_TRACE < older {
-        return false;
-    }
-    if MAX_TRACE - older < newer {
-        return false;
-    }
-    if older + newer < count {
-        return false;
-    }
-    (SCRATCH_WORDS <= scratch) & ((count + 63) / 64 <= out)
+    let states = older.saturating_add(newer);
+    (states <= MAX_TRACE)
+        & (count <= states)
+        & (SCRATCH_WORDS <= scratch)
+        & (layout::words_of(count) <= out)
 }
 
 // The verdicts of the node at place k at the first `count` ticks of the trace `older` and then `newer`, which are read where they lie;
@@ -198,47 +133,51 @@ pub fn judge(
     false
 }
 
-// How many words n bits take.
-fn words_of(n: usize) -> usize
-    ensures { result ≡ words n }
-{
-    n / 64 + (n % 64 + 63) / 64
-}
-
-// The number of a call on so many states, for a rule of a table that is sound or not and has `count` rules; the buffers have these lengths.
-fn whole_number(
+// Whether a call on so many states is accepted, for a rule of a table that is sound or not and has `count` rules; the buffers have these lengths.
+fn check_whole(
     sound: bool,
     count: usize,
     rule: usize,
     states: usize,
     scratch: usize,
     out: usize,
-) -> u8
-    ensures { result ≡ first (whole_rows sound count rule states scratch out) }
+) -> Result<(), Refusal>
+    ensures { number result ≡ first (whole_rows sound count rule states scratch out) }
 {
-    let short = (scratch < SCRATCH_WORDS) | (out < words_of(states));
-    let buffer = lists::either(short, refusals::BUFFER, 0);
-    let many = lists::either(MAX_TRACE < states, refusals::STATES, buffer);
-    let absent = lists::either(count <= rule, refusals::ABSENT, many);
-    lists::either(!sound, refusals::UNSOUND, absent)
+    if !sound {
+        return Err(Refusal::Unsound);
+    }
+    if count <= rule {
+        return Err(Refusal::Absent);
+    }
+    if MAX_TRACE < states {
+        return Err(Refusal::States);
+    }
+    if scratch < SCRATCH_WORDS || out < layout::words_of(states) {
+        return Err(Refusal::Buffer);
+    }
+    Ok(())
 }
 
-// The verdicts of what a rule watches on a whole trace: 0, or the number of the refusal.
-pub fn verdicts(t: Table, rule: usize, states: &[u32], scratch: &mut [u64], out: &mut [u64]) -> u8
-    ensures { Answered t rule states.now scratch.old out.old result scratch.new out.new }
+// The verdicts of what a rule watches on a whole trace.
+pub fn verdicts(
+    t: Table,
+    rule: usize,
+    states: &[u32],
+    scratch: &mut [u64],
+    out: &mut [u64],
+) -> Result<(), Refusal>
+    ensures { Answered t rule states.now scratch.old out.old (number result) scratch.new out.new }
 {
-    let number = whole_number(
+    check_whole(
         table::sound(t),
         t.rule_count,
         rule,
         states.len(),
         scratch.len(),
         out.len(),
-    );
-    if number != 0 {
-        return number;
-    }
+    )?;
     let k = t.rules[rule].watched as usize;
     judge(t, k, &states[0..0], states, states.len(), scratch, out);
-    0
+    Ok(())
 }

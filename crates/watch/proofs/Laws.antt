@@ -8,13 +8,16 @@ use mathlib.Core.List.{List, [], ◌∷◌, ◌++◌, map, append_assoc, append-
 use borrow.Author.Tests.{le-ltb, lt-leb, eq-eqb}
 use lib.Dec.{eqb}
 use lib.ListN.{length, get_or, take, drop, length-append, length-drop, length-map, get_or-map}
-use lib.Seq.{take-add, take_all, sets, sets-eq, length-take-le, take-append_seam, length-sets}
+use lib.Seq.{take-add, take_all, sets, sets-eq, length-take-le, take-append_seam}
+use Rattle.std.specs.Prelude.{Result, Ok, Err}
+use Rattle.std.specs.Result.{result_unwrap_or}
 use Rattle.limits.specs.Limits.{max_seen}
+use Rattle.refusals.specs.declared.Refusal.{Refusal}
 use Rattle.lists.specs.Sequence.{ticks}
 use Rattle.lists.specs.Bits.{bit_at}
-use Rattle.session.specs.declared.Answer.{Answer}
 use Rattle.mltl.specs.Mltl.{delay}
-use Rattle.session.specs.Session.{Effect, opening_by, opening, fed, feeding, closing, delay_of, unfit}
+use Rattle.session.specs.declared.Session.{Session}
+use Rattle.session.specs.Session.{Answer, Effect, no_session, opening_told, opening_by, opening, fed, feeding, closing, delay_of, unfit}
 use Rattle.session.proofs.Answers.{feed_fits}
 use Rattle.session.proofs.Effects.{feed_accepted, close_accepted as close_is}
 use Rattle.table.specs.declared.Table.{Table}
@@ -23,8 +26,7 @@ use Rattle.table.specs.Sound.{is_sound}
 use Rattle.table.proofs.Soundness.{sound_iff}
 use Rattle.book.specs.Reading.{reading}
 use Rattle.book.proofs.Sound.{accepted_sound}
-use Rattle.simplify.specs.declared.Simplified.{Simplified}
-use Rattle.simplify.specs.Promise.{Promised, Simpler}
+use Rattle.simplify.specs.Promise.{Simplified, Promised, Simpler, simplified_told}
 use Rattle.mission.specs.Mission.{Start}
 use Rattle.mission.specs.Mission as mission
 use Rattle.lines.specs.declared.Line.{Line}
@@ -45,6 +47,15 @@ fitting_is : (name tick : ℕ) (words : List ℕ) (count : ℕ) → count ≤ ma
 fitting_is name tick words count h k = rw (le-ltb max_rows count h, le-ltb max_tick (tick + count) k)
 
 -- ---- the start
+-- what stands for an answer that is a refusal
+pub simplified_or : (t : Table) (r : Result Table Refusal) → result_unwrap_or r t ≡ (simplified_told t r).table
+simplified_or t (Ok u) = refl
+simplified_or t (Err e) = refl
+
+pub opened_or : (r : Result Session Refusal) → result_unwrap_or r no_session ≡ (opening_told r).session
+opened_or (Ok s) = refl
+opened_or (Err e) = refl
+
 first_of : (xs : List ℕ) (a b : ℕ) → 0 < length xs → get_or xs 0 a ≡ get_or xs 0 b
 first_of [] a b h = absurd (omega arith)
 first_of (x ∷ xs) a b h = refl
@@ -292,9 +303,6 @@ module _ (p : Progress) (part : List ℕ) (at : ℕ) (h block : List ℕ) (ready
   module _ (q : Filled) (b' : List ℕ) (is : q ≡ filled_from at p.count f) (bs : b' ≡ filled_block) where
     pub few_lines : q.count ≤ 1024
     few_lines = rw is (omega (arith, fits_in, size))
-
-    pub block_size : length b' ≡ 1024
-    block_size = rw bs (length-sets block p.count f.states) ∙ size
 
     pub bad_step : (text text' : List ℕ) (used : ℕ) → q.bad ≡ true → Put text 0 (bad_line (p.session.seen + (q.count + 1))) text' used
         → Steps p part at h block h b' text' (record {

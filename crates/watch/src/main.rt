@@ -2,10 +2,11 @@
 // of the book's first rule.
 #![tactic(auto)]
 
-ghost use Rattle.std.specs.Prelude.{◌≡◌, false, ◌≤◌, ◌<◌, length, IfOk};
+ghost use Rattle.std.specs.Prelude.{◌≡◌, false, ◌≤◌, length, IfOk, IfSome};
 ghost use Rattle.limits.specs.Limits.{max_block};
 ghost use Rattle.watch.specs.Steps.{Ready, ReadyIfGoing, Begins, Fed, Steps, Closes, Consumed, Completed};
 
+use book::Fault;
 use limits::{BOOK_BYTES, CLOSE_WORDS, HISTORY_WORDS, MAX_BLOCK, SCRATCH_WORDS};
 use lines::Line;
 use rows::TEXT_BYTES;
@@ -14,10 +15,8 @@ use std::fs::{File, Files};
 use std::io::{self, Eprint, ErrorKind, Read, Write};
 use table::Table;
 
-// The room for a book has a byte more than the longest, to show a longer one; a count above it stands for a book that cannot be read.
+// The room for a book has a byte more than the longest, to show a longer one.
 const ROOM: usize = BOOK_BYTES + 1;
-
-const UNREADABLE: usize = ROOM + 1;
 
 const BOOK_NAME: &str = "rules.bin";
 
@@ -44,120 +43,110 @@ struct StepAnswer {
     used: usize,
 }
 
-// Lines of the part, from `at` on, up to a full block, which is fed, a bad line, or the part's end.
-fn step(
-    p: Progress,
-    part: &[u8],
-    at: usize,
-    block: &mut [u32],
-    history: &mut [u32; HISTORY_WORDS],
-    scratch: &mut [u64; SCRATCH_WORDS],
-    out: &mut [u64; CLOSE_WORDS],
-    text: &mut [u8; TEXT_BYTES],
-) -> StepAnswer
-    requires { Ready p × (length block.old ≡ max_block) }
-    ensures { Steps p part.now at history.old block.old history.new block.new text.new result }
-{
-    let line = p.line;
-    let f = lines::fill(part, at, line, block, p.count);
-    let rest = f.line;
-    let session = p.session;
-    if f.bad {
-        let used = rows::put_bad_line(text, session.seen, f.count as u64 + 1);
-        return StepAnswer {
-            progress: Progress {
-                session,
-                name: p.name,
-                line: rest,
-                count: f.count,
-                tick: p.tick,
-                going: false,
-            },
-            at: f.at,
-            used,
-        };
-    }
-    let next = Progress {
-        session,
-        name: p.name,
-        line: rest,
-        count: f.count,
-        tick: p.tick,
-        going: true,
-    };
-    if f.count < MAX_BLOCK {
-        return StepAnswer {
-            progress: next,
-            at: f.at,
-            used: 0,
-        };
-    }
-    feed(next, f.at, block, history, scratch, out, text)
+// What the steps work on: the states that wait, those that were fed last, words for the session and its verdicts, and the text that is written.
+#[derive(Drop)]
+struct Buffers {
+    block: [u32; MAX_BLOCK],
+    history: [u32; HISTORY_WORDS],
+    scratch: [u64; SCRATCH_WORDS],
+    out: [u64; CLOSE_WORDS],
+    text: [u8; TEXT_BYTES],
 }
 
-// Feeds the states that wait.
-fn feed(
-    p: Progress,
-    at: usize,
-    block: &[u32],
-    history: &mut [u32; HISTORY_WORDS],
-    scratch: &mut [u64; SCRATCH_WORDS],
-    out: &mut [u64; CLOSE_WORDS],
-    text: &mut [u8; TEXT_BYTES],
-) -> StepAnswer
-    requires { (p.count ≤ max_block) × (p.tick ≤ p.session.seen) × (length block.now ≡ max_block) }
-    ensures { Fed p at history.old block.now history.new text.new result }
-{
-    let session = p.session;
-    let line = p.line;
-    let a = session.feed(&block[..p.count], history, scratch, out);
-    let s = a.session;
-    if a.number != 0 {
-        let used = rows::put_feed(text, a.number);
-        return StepAnswer {
-            progress: Progress {
-                session: s,
-                name: p.name,
-                line,
-                count: p.count,
-                tick: p.tick,
-                going: false,
-            },
-            at,
-            used,
-        };
+impl Buffers {
+    fn new() -> Buffers {
+        Buffers {
+            block: [0; MAX_BLOCK],
+            history: [0; HISTORY_WORDS],
+            scratch: [0; SCRATCH_WORDS],
+            out: [0; CLOSE_WORDS],
+            text: [0; TEXT_BYTES],
+        }
     }
-    let used = rows::put_rows(text, p.name, p.tick, out, a.count);
-    StepAnswer {
-        progress: Progress {
-            session: s,
-            name: p.name,
-            line,
-            count: 0,
-            tick: p.tick + a.count as u64,
+
+    // Lines of the part, from `at` on, up to a full block, which is fed, a bad line, or the part's end.
+    fn step(&mut self, p: Progress, part: &[u8], at: usize) -> StepAnswer
+        requires { Ready p }
+        ensures { Steps p part.now at self.old.history self.old.block self.new.history self.new.block self.new.text result }
+    {
+        let f = lines::fill(part, at, p.line, &mut self.block, p.count);
+        let next = Progress {
+            line: f.line,
+            count: f.count,
             going: true,
-        },
-        at,
-        used,
+            ..p
+        };
+        if f.bad {
+            let used = rows::put_bad_line(&mut self.text, p.session.seen, f.count as u64 + 1);
+            return StepAnswer {
+                progress: Progress {
+                    going: false,
+                    ..next
+                },
+                at: f.at,
+                used,
+            };
+        }
+        if f.count < MAX_BLOCK {
+            return StepAnswer {
+                progress: next,
+                at: f.at,
+                used: 0,
+            };
+        }
+        self.feed(next, f.at)
     }
-}
 
-// Closes the session.
-fn close(
-    p: Progress,
-    history: &[u32; HISTORY_WORDS],
-    scratch: &mut [u64; SCRATCH_WORDS],
-    out: &mut [u64; CLOSE_WORDS],
-    text: &mut [u8; TEXT_BYTES],
-) -> usize
-    ensures { Closes p history.now text.new result }
-{
-    let session = p.session;
-    let b = session.close(history, scratch, out);
-    if b.number != 0 {
-        return 0;
+    // Feeds the states that wait.
+    fn feed(&mut self, p: Progress, at: usize) -> StepAnswer
+        requires { (p.count ≤ max_block) × (p.tick ≤ p.session.seen) }
+        ensures fed { Fed p at self.old.history self.old.block self.new.history self.new.text result }
+        ensures block { self.new.block ≡ self.old.block }
+    {
+        let fed = p.session.feed(
+            &self.block[..p.count],
+            &mut self.history,
+            &mut self.scratch,
+            &mut self.out,
+        );
+        match fed {
+            Ok(given) => {
+                let used = rows::put_rows(&mut self.text, p.name, p.tick, &self.out, given.count);
+                StepAnswer {
+                    progress: Progress {
+                        session: given.session,
+                        count: 0,
+                        tick: p.tick + given.count as u64,
+                        going: true,
+                        ..p
+                    },
+                    at,
+                    used,
+                }
+            }
+            Err(refusal) => {
+                let used = rows::put_feed(&mut self.text, refusal.number());
+                StepAnswer {
+                    progress: Progress { going: false, ..p },
+                    at,
+                    used,
+                }
+            }
+        }
     }
-    rows::put_rows(text, p.name, p.tick, out, b.count)
+
+    // Closes the session.
+    fn close(&mut self, p: Progress) -> usize
+        ensures { Closes p self.old.history self.new.text result }
+    {
+        let closed = p
+            .session
+            .close(&self.history, &mut self.scratch, &mut self.out);
+        match closed {
+            Ok(given) => rows::put_rows(&mut self.text, p.name, p.tick, &self.out, given.count),
+            Err(_) => 0,
+        }
+    }
 }
 
 // Tells on standard error what cannot be read or written. Where that fails too, there is nobody to tell.
@@ -180,20 +169,11 @@ fn write<W: Write>(rt: &impl Eprint, to: &mut W, text: &[u8], used: usize) -> bo
     }
 }
 
-// The same, and the program ends.
+// The progress of a program that ends here.
 fn ended(p: Progress) -> Progress
     ensures { (result.going ≡ false) × (result.line ≡ p.line) }
 {
-    let session = p.session;
-    let line = p.line;
-    Progress {
-        session,
-        name: p.name,
-        line,
-        count: p.count,
-        tick: p.tick,
-        going: false,
-    }
+    Progress { going: false, ..p }
 }
 
 // All lines of a part, step by step; after each step its text is written.
@@ -202,144 +182,106 @@ fn consume<W: Write>(
     to: &mut W,
     first: Progress,
     part: &[u8],
-    block: &mut [u32],
-    history: &mut [u32; HISTORY_WORDS],
-    scratch: &mut [u64; SCRATCH_WORDS],
-    out: &mut [u64; CLOSE_WORDS],
-    text: &mut [u8; TEXT_BYTES],
+    buffers: &mut Buffers,
 ) -> Progress
-    requires { Ready first × (length block.old ≡ max_block) }
-    ensures { Consumed first part.now history.old block.old history.new block.new result }
+    requires { Ready first }
+    ensures { Consumed first part.now buffers.old.history buffers.old.block buffers.new.history buffers.new.block result }
 {
     let mut p = first;
     let mut at = 0;
+    // How far a step goes, it tells.
     while at < part.len() {
-        let o = step(p, part, at, block, history, scratch, out, text);
-        let next = o.progress;
-        if !write(rt, to, text, o.used) {
-            return ended(next);
+        let o = buffers.step(p, part, at);
+        if !write(rt, to, &buffers.text, o.used) {
+            return ended(o.progress);
         }
-        if !next.going {
-            return next;
+        if !o.progress.going {
+            return o.progress;
         }
-        p = next;
+        p = o.progress;
         at = o.at;
     }
     p
 }
 
-// All of standard input. A proved loop has to end, so it counts its reads, up to 2^64 - 1 rounds of 2^64 - 1: more than any mission has, since a state
-// takes 11 bytes at most and a read gives one at least.
+// All of standard input. A proved loop has to end, so its reads are counted, up to 2^64 - 1 rounds of 2^64 - 1: more than any mission has, since a
+// state takes 11 bytes at most and a read gives one at least.
 fn run<R: Read, W: Write>(
     rt: &impl Eprint,
     input: &mut R,
     to: &mut W,
     first: Progress,
-    block: &mut [u32],
-    history: &mut [u32; HISTORY_WORDS],
-    scratch: &mut [u64; SCRATCH_WORDS],
-    out: &mut [u64; CLOSE_WORDS],
-    text: &mut [u8; TEXT_BYTES],
+    buffers: &mut Buffers,
 ) -> Progress
-    requires { Ready first × (length block.old ≡ max_block) }
+    requires { Ready first }
     ensures { ReadyIfGoing result }
 {
     let mut buf = [0u8; PART_BYTES];
     let mut p = first;
-    let mut rounds = u64::MAX;
-    let mut reads = 0;
-    while rounds > 0 {
-        let n = match input.read(&mut buf) {
-            Ok(n) => n,
-            Err(error) => {
-                fail(rt, "standard input", error);
-                return ended(p);
+    for _ in 0..u64::MAX {
+        for _ in 0..u64::MAX {
+            let n = match input.read(&mut buf) {
+                Ok(n) => n,
+                Err(error) => {
+                    fail(rt, "standard input", error);
+                    return ended(p);
+                }
+            };
+            if n == 0 {
+                return p;
             }
-        };
-        if n == 0 {
-            return p;
+            p = consume(rt, to, p, &buf[..n], buffers);
+            if !p.going {
+                return p;
+            }
         }
-        p = consume(rt, to, p, &buf[..n], block, history, scratch, out, text);
-        if !p.going {
-            return p;
-        }
-        let next = reads + 1;
-        reads = next % u64::MAX;
-        rounds -= next / u64::MAX;
     }
     p
 }
 
 // The line end that the last line may lack.
-fn last_line<W: Write>(
-    rt: &impl Eprint,
-    to: &mut W,
-    p: Progress,
-    block: &mut [u32],
-    history: &mut [u32; HISTORY_WORDS],
-    scratch: &mut [u64; SCRATCH_WORDS],
-    out: &mut [u64; CLOSE_WORDS],
-    text: &mut [u8; TEXT_BYTES],
-) -> Progress
-    requires { Ready p × (length block.old ≡ max_block) }
-    ensures { Completed p history.old block.old history.new block.new result }
+fn last_line<W: Write>(rt: &impl Eprint, to: &mut W, p: Progress, buffers: &mut Buffers) -> Progress
+    requires { Ready p }
+    ensures { Completed p buffers.old.history buffers.old.block buffers.new.history buffers.new.block result }
 {
-    let line = p.line;
-    if line.digits == 0 {
+    if p.line.digits == 0 {
         return p;
     }
-    let o = step(p, b"\n", 0, block, history, scratch, out, text);
-    let next = o.progress;
-    if write(rt, to, text, o.used) {
-        return next;
+    let o = buffers.step(p, b"\n", 0);
+    if write(rt, to, &buffers.text, o.used) {
+        return o.progress;
     }
-    ended(next)
+    ended(o.progress)
 }
 
 // The end of the input: the last line, the last block, and the close.
-fn finish<W: Write>(
-    rt: &impl Eprint,
-    to: &mut W,
-    first: Progress,
-    block: &mut [u32],
-    history: &mut [u32; HISTORY_WORDS],
-    scratch: &mut [u64; SCRATCH_WORDS],
-    out: &mut [u64; CLOSE_WORDS],
-    text: &mut [u8; TEXT_BYTES],
-)
-    requires { Ready first × (length block.old ≡ max_block) }
+fn finish<W: Write>(rt: &impl Eprint, to: &mut W, first: Progress, buffers: &mut Buffers)
+    requires { Ready first }
 {
-    let p = last_line(rt, to, first, block, history, scratch, out, text);
+    let p = last_line(rt, to, first, buffers);
     if !p.going {
         return;
     }
-    let o = feed(p, 0, block, history, scratch, out, text);
-    if !write(rt, to, text, o.used) {
+    let o = buffers.feed(p, 0);
+    if !write(rt, to, &buffers.text, o.used) {
         return;
     }
-    let last = o.progress;
-    if !last.going {
+    if !o.progress.going {
         return;
     }
-    let used = close(last, history, scratch, out, text);
-    write(rt, to, text, used);
+    let used = buffers.close(o.progress);
+    write(rt, to, &buffers.text, used);
 }
 
 // The first rule of a table that was read, simplified and opened.
 fn begin(t: Table) -> Progress
     ensures { Begins t result × Ready result }
 {
-    let simplified = simplify::simplify(t);
-    let table = simplified.table;
-    let rules = table.rules;
-    let first = rules[0];
-    let opening = Session::open(table, 0);
-    let session = opening.session;
-    let line = lines::start();
+    let table = simplify::simplify(t).unwrap_or(t);
     Progress {
-        session,
-        name: first.name,
-        line,
+        session: Session::open(table, 0).unwrap_or(session::no_session()),
+        name: table.rules[0].name,
+        line: lines::start(),
         count: 0,
         tick: 0,
         going: true,
@@ -352,35 +294,11 @@ fn watch<R: Read, W: Write>(
     input: &mut R,
     to: &mut W,
     t: Table,
-    text: &mut [u8; TEXT_BYTES],
+    buffers: &mut Buffers,
 ) {
-    let p = begin(t);
-    let mut block = [0u32; MAX_BLOCK];
-    let mut history = [0u32; HISTORY_WORDS];
-    let mut scratch = [0u64; SCRATCH_WORDS];
-    let mut out = [0u64; CLOSE_WORDS];
-    let last = run(
-        rt,
-        input,
-        to,
-        p,
-        &mut block,
-        &mut history,
-        &mut scratch,
-        &mut out,
-        text,
-    );
+    let last = run(rt, input, to, begin(t), buffers);
     if last.going {
-        finish(
-            rt,
-            to,
-            last,
-            &mut block,
-            &mut history,
-            &mut scratch,
-            &mut out,
-            text,
-        );
+        finish(rt, to, last, buffers);
     }
 }
 
@@ -389,6 +307,7 @@ fn fill<R: Read>(file: &mut R, book: &mut [u8]) -> io::Result<usize>
     ensures bound { IfOk result (λ n. n ≤ length book.new) }
 {
     let mut at = 0;
+    // How many bytes a read gives, it tells.
     while at < book.len() {
         let n = file.read(&mut book[at..])?;
         if n == 0 {
@@ -399,54 +318,38 @@ fn fill<R: Read>(file: &mut R, book: &mut [u8]) -> io::Result<usize>
     Ok(at)
 }
 
-// A book that cannot be read, which is told.
-fn unreadable(rt: &impl Eprint, error: io::Error) -> usize {
-    fail(rt, BOOK_NAME, error);
-    UNREADABLE
-}
-
-// The book in rules.bin, which counts as empty if it is missing: how many bytes it has, or more than the buffer has if it cannot be read.
-fn load<R: Files + Eprint>(rt: &R, book: &mut [u8]) -> usize {
-    match File::open(rt, BOOK_NAME) {
-        Ok(mut file) => match fill(&mut file, book) {
-            Ok(n) => n,
-            Err(error) => unreadable(rt, error),
-        },
-        Err(error) if error.kind() == ErrorKind::NotFound => 0,
-        Err(error) => unreadable(rt, error),
+// The book in rules.bin, which counts as empty if it is missing: how many bytes it has. One that cannot be read is told.
+fn load<R: Files + Eprint>(rt: &R, book: &mut [u8]) -> Option<usize>
+    ensures bound { IfSome result (λ n. n ≤ length book.new) }
+{
+    let read = match File::open(rt, BOOK_NAME) {
+        Ok(mut file) => fill(&mut file, book),
+        Err(error) if error.kind() == ErrorKind::NotFound => Ok(0),
+        Err(error) => Err(error),
+    };
+    match read {
+        Ok(n) => Some(n),
+        Err(error) => {
+            fail(rt, BOOK_NAME, error);
+            None
+        }
     }
 }
 
 // A refused book.
-fn tell<W: Write>(
-    rt: &impl Eprint,
-    to: &mut W,
-    number: u8,
-    place: u8,
-    text: &mut [u8; TEXT_BYTES],
-) {
-    let used = rows::put_book(text, number, place);
+fn tell<W: Write>(rt: &impl Eprint, to: &mut W, fault: Fault, text: &mut [u8; TEXT_BYTES]) {
+    let used = rows::put_book(text, fault.refusal.number(), fault.record);
     write(rt, to, text, used);
 }
 
 fn main(rt: HostRuntime) {
     let mut bytes = [0u8; ROOM];
-    let n = load(&rt, &mut bytes);
-    if n > ROOM {
+    let Some(n) = load(&rt, &mut bytes) else {
         return;
+    };
+    let mut buffers = Buffers::new();
+    match book::read(&bytes[..n]) {
+        Ok(table) => watch(&rt, &mut rt.stdin(), &mut rt.stdout(), table, &mut buffers),
+        Err(fault) => tell(&rt, &mut rt.stdout(), fault, &mut buffers.text),
     }
-    let mut text = [0u8; TEXT_BYTES];
-    let reading = book::read(&bytes[..n]);
-    if reading.number != 0 {
-        tell(
-            &rt,
-            &mut rt.stdout(),
-            reading.number,
-            reading.record,
-            &mut text,
-        );
-        return;
-    }
-    let table = reading.table;
-    watch(&rt, &mut rt.stdin(), &mut rt.stdout(), table, &mut text);
 }

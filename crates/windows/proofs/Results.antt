@@ -2,9 +2,9 @@
 use mathlib.Core.Path.{◌≡◌, sym, ap, ◌∙◌}
 use mathlib.Core.Bool.{Bool, true, false, ◌||◌}
 use mathlib.Core.List.{List}
-use Prim.Native.Nat.{ℕ, ◌≤◌, ◌<◌, ◌-◌}
+use Prim.Native.Nat.{ℕ, ◌≤◌, ◌-◌}
 use native.Mathlib.Omega.{arith}
-use borrow.Author.Tests.{le-ltb, lt-ltb, ltb-false}
+use borrow.Author.Tests.{le-ltb, ltb-false}
 use lib.Dec.{ltb}
 use lib.ListN.{length}
 use Rattle.lists.specs.Bits.{bit_at, below}
@@ -34,16 +34,6 @@ module _ {lo hi : ℕ} where
 
   pub interval_fits : lo ≤ hi → hi ≤ 4095 → bad_interval lo hi ≡ false
   interval_fits a b = rw (le-ltb hi lo a, le-ltb 4095 hi b)
-
-module _ (d e n : ℕ) where
-  pub second_late : e < d → true ≡ misplaced d e n
-  second_late h = rw (lt-ltb e d h)
-
-  pub words_few : d ≤ e → n < e → true ≡ misplaced d e n
-  words_few h k = rw (le-ltb e d h, lt-ltb n e k)
-
-  pub words_enough : d ≤ e → e ≤ n → (ltb d (n - e) || ltb (e - d) (n - e)) ≡ misplaced d e n
-  words_enough h k = rw (le-ltb e d h, le-ltb n e k)
 
 module _ {d e : ℕ} {xs : List ℕ} where
   three_is : misplaced d e (length xs) ≡ false → Three d e xs
@@ -81,15 +71,6 @@ module _ {lo hi d e : ℕ} {xs : List ℕ} where
       turned ys (until_later d e lo hi ys) (ap (λ (n : ℕ). bad_interval lo hi || misplaced d e n) l ∙ fits i h) q
 
 -- ---- what a fit call leaves
-module _ (lo hi : ℕ) (fit : bad_interval lo hi ≡ false) {xs ys : List ℕ} where
-  pub some_leaves : Turned (eventually (span xs) lo hi (bit_at xs)) xs ys → ys ≡ pick (bad_interval lo hi) xs (some_later lo hi xs)
-  unfolding some_later
-  some_leaves r = turns xs (some_later lo hi xs) fit r.is
-
-  pub whole_leaves : Turned (whole lo hi (bit_at xs)) xs ys → ys ≡ pick (bad_interval lo hi) xs (whole_later lo hi xs)
-  unfolding whole_later
-  whole_leaves r = turns xs (whole_later lo hi xs) fit r.is
-
 module _ {lo hi : ℕ} (a : lo ≤ hi) (b : hi ≤ 4095) where
   pub some_turned : {xs ys : List ℕ} → ys ≡ pick (bad_interval lo hi) xs (some_later lo hi xs) → Turned (eventually (span xs) lo hi (bit_at xs)) xs ys
   unfolding some_later

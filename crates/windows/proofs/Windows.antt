@@ -9,9 +9,9 @@ use native.Mathlib.Numerals.{add-one}
 use native.Mathlib.Omega.{arith}
 use borrow.Author.Tests.{le-ltb}
 use lib.Dec.{ltb}
-use lib.ListN.{length, get_or, take, get_or-append}
+use lib.ListN.{length, get_or, take, get_or-append, length-take}
 use lib.Pow.{pow_pos, pow_mono}
-use lib.Seq.{take-suc, take_at}
+use lib.Seq.{take-suc, take_at, take_all, get_or-take}
 use Rattle.lists.specs.Bits.{bit_at, pack, below}
 use Rattle.lists.specs.Sequence.{sum, padded}
 use Rattle.lists.proofs.Tests.{lt_or_le}
@@ -19,10 +19,8 @@ use Rattle.lists.proofs.Columns.{bit_at_past, bit_at_pack, length_pack, pack_is,
 use Rattle.mltl.specs.Mltl.{eventually, until, opposite}
 use Rattle.mltl.proofs.Readings.{until_by}
 use Rattle.mltl.proofs.Operators.{ever, eventually_at, eventually_past}
-use Rattle.interval.specs.Parts.{parts, splitting, bad_interval}
-use Rattle.interval.specs.Doubling.{doubling}
-use Rattle.interval.specs.declared.Doubling.{Doubling}
-use Rattle.interval.specs.declared.Splitting.{Splitting}
+use Rattle.interval.specs.Parts.{Splitting, parts, splitting, bad_interval}
+use Rattle.interval.specs.Doubling.{Doubling, doubling}
 use Rattle.interval.proofs.Laws.{total, parts_total, parts_12, interval_fits}
 use Rattle.interval.proofs.Doublings.{Overlapping, overlapping}
 use Rattle.column.specs.Column.{Turned, flipped}
@@ -129,8 +127,17 @@ module _ (lo hi : ℕ) (a : lo ≤ hi) (b : hi ≤ 4095) {r : Splitting} (e : r 
   pub cut_parts : take r.count r.parts ≡ parts (hi - lo)
   cut_parts = ap₂ (λ (n : ℕ) (l : List ℕ). take n l) cut_count cut_list ∙ take_at (parts (hi - lo)) _ (length (parts (hi - lo))) refl
 
-  pub cut_width : width_of r.count r.parts ≡ hi - lo
-  cut_width = ap total cut_parts ∙ parts_total (hi - lo)
+  -- the parts as a list of their own
+  pub cut_all : let ks : List ℕ = take r.count r.parts in take (length ks) ks ≡ parts (hi - lo)
+  cut_all = take_all (length (take r.count r.parts)) (take r.count r.parts) (omega arith) ∙ cut_parts
+
+  pub cut_width : let ks : List ℕ = take r.count r.parts in width_of (length ks) ks ≡ hi - lo
+  cut_width = ap total cut_all ∙ parts_total (hi - lo)
+
+  pub cut_each : let ks : List ℕ = take r.count r.parts in (i : ℕ) → i < length ks → get_or ks i 0 < 64
+  cut_each i h =
+      let l : i < r.count = omega (arith, h, length-take r.count r.parts) in
+      rw (get_or-take r.count r.parts i 0 l) (cut_small i l)
 
 -- ---- the operators go by their operands below n alone, where the right one is clear past n
 module _ (n N lo hi : ℕ) (a b A B : ℕ → Bool) (h : n ≤ N) (inside : (i : ℕ) → i < N → b i ≡ true → i < n) (e : (i : ℕ) → i < n → a i ≡ A i)

@@ -2,28 +2,72 @@
 // and R part by part, and begun later.
 #![tactic(auto)]
 
-ghost use Rattle.std.specs.Prelude.{◌≡◌, ◌||◌, ℕ, ◌+◌, ◌-◌, ◌^◌, ◌≤◌, ◌<◌, length, get_or};
-ghost use Rattle.limits.specs.Limits.{max_parts};
+ghost use Rattle.std.specs.Prelude.{◌≡◌, Bool, ◌||◌, ◌&&◌, ℕ, ◌+◌, ◌-◌, ◌^◌, ◌≤◌, ◌<◌, length, get_or};
+ghost use Rattle.lists.specs.Bits.{bit_at, pack};
 ghost use Rattle.lists.specs.Choice.{pick};
-ghost use Rattle.mltl.specs.Mltl.{until};
-ghost use Rattle.mltl.specs.Known.{whole_release};
 ghost use Rattle.interval.specs.Parts.{bad_interval};
-ghost use Rattle.column.specs.Column.{register, flipped};
+ghost use Rattle.column.specs.Column.{register, flipped, Turned};
+ghost use Rattle.pair.specs.Pair.{IntoFirst};
 ghost use Rattle.moves.specs.Moves.{moved};
-ghost use Rattle.windows.specs.Windows.{some_later, all_later, whole_later, third, misplaced, all, any, until_later, release_later, whole_release_later, Three};
-ghost use Rattle.windows.specs.Code.Steps.{Eventually, Whole, Two, Within, by_parts};
+ghost use Rattle.windows.specs.Laws.{Unary, Binary};
+ghost use Rattle.windows.specs.Windows.{span, some_later, all_later, whole_later, later, third, misplaced, until_later, release_later, whole_release_later, Three};
+ghost use Rattle.windows.specs.Code.Steps.{Two, Within, by_parts};
 
-use limits::MAX_PARTS;
+// ---- one register, the whole slice
 
-// ---- F and G: one register, the whole slice
+// How two windows that overlap or meet are made one.
+trait Joining {
+    ghost join: { Bool → Bool → Bool };
 
-// Bit t becomes whether one of the 2 ^ k bits from t on is set.
-fn some_within(s: &mut [u64], k: usize)
+    // Each bit is joined with the one that stands `by` bits later.
+    fn join_moved(s: &mut [u64], by: usize)
+        ensures { Turned (λ t. join (bit_at s.old t) (bit_at s.old (t + by))) s.old s.new };
+}
+
+// One of the bits is set.
+struct AnyBit;
+
+impl Joining for AnyBit {
+    ghost join = { ◌||◌ };
+
+    fn join_moved(s: &mut [u64], by: usize) {
+        moves::join_moved(s, by);
+    }
+}
+
+// All of the bits are set.
+struct EveryBit;
+
+impl Joining for EveryBit {
+    ghost join = { ◌&&◌ };
+
+    fn join_moved(s: &mut [u64], by: usize) {
+        moves::meet_moved(s, by);
+    }
+}
+
+// Bit t becomes that of the window of the 2 ^ k bits from t on.
+fn within<J: Joining>(s: &mut [u64], k: usize)
     requires { k < 64 }
-    ensures { Eventually 0 (2 ^ k - 1) s.old s.new }
+    ensures { (W : ℕ → ℕ → ℕ → (ℕ → Bool) → ℕ → Bool) → Unary W J.join → Turned (W (span s.old) 0 (2 ^ k - 1) (bit_at s.old)) s.old s.new }
 {
     for j in 0..k {
-        moves::join_moved(s, 1 << j);
+        J::join_moved(s, 1 << j);
+    }
+}
+
+// Bit t becomes that of the window of the bits from t + lo to t + hi. Nothing changes where the interval is refused.
+fn later<J: Joining>(s: &mut [u64], lo: u16, hi: u16)
+    ensures { (W : ℕ → ℕ → ℕ → (ℕ → Bool) → ℕ → Bool) → Unary W J.join → s.new ≡ pick (bad_interval lo hi) s.old (pack (length s.old) (W (span s.old) lo hi (bit_at s.old))) }
+{
+    let Ok(cut) = interval::double(lo, hi) else {
+        return;
+    };
+    let by = cut.leftover as usize;
+    moves::move_down(s, lo as usize);
+    within::<J>(s, cut.exponent as usize);
+    if by > 0 {
+        J::join_moved(s, by);
     }
 }
 
@@ -31,17 +75,15 @@ fn some_within(s: &mut [u64], k: usize)
 pub fn some_later(s: &mut [u64], lo: u16, hi: u16)
     ensures { s.new ≡ pick (bad_interval lo hi) s.old (some_later lo hi s.old) }
 {
-    if interval::bad_interval(lo, hi) {
-        return;
-    }
-    let cut = interval::double(lo, hi);
-    let k = cut.exponent as usize;
-    let by = cut.leftover as usize;
-    moves::move_down(s, lo as usize);
-    some_within(s, k);
-    if by > 0 {
-        moves::join_moved(s, by);
-    }
+    later::<AnyBit>(s, lo, hi);
+}
+
+// Bit t becomes whether all of the bits from t + lo to t + hi are set, those past the words included, which are clear: F's no and G's yes while a trace
+// grows. Nothing changes where the interval is refused.
+pub fn whole_later(s: &mut [u64], lo: u16, hi: u16)
+    ensures { s.new ≡ pick (bad_interval lo hi) s.old (whole_later lo hi s.old) }
+{
+    later::<EveryBit>(s, lo, hi);
 }
 
 // G: bit t becomes whether all of the bits from t + lo to t + hi that lie below n are set. Nothing changes where the interval is refused.
@@ -56,46 +98,42 @@ pub fn all_later(s: &mut [u64], lo: u16, hi: u16, n: usize)
     column::complement(s, n);
 }
 
-// ---- every bit of an interval, those past the words included, which are clear: F's no and G's yes while a trace grows
-
-// Bit t becomes whether all of the 2 ^ k bits from t on are set.
-fn whole_within(s: &mut [u64], k: usize)
-    requires { k < 64 }
-    ensures { Whole 0 (2 ^ k - 1) s.old s.new }
-{
-    for j in 0..k {
-        moves::meet_moved(s, 1 << j);
-    }
-}
-
-// Bit t becomes whether all of the bits from t + lo to t + hi are set. Nothing changes where the interval is refused.
-pub fn whole_later(s: &mut [u64], lo: u16, hi: u16)
-    ensures { s.new ≡ pick (bad_interval lo hi) s.old (whole_later lo hi s.old) }
-{
-    if interval::bad_interval(lo, hi) {
-        return;
-    }
-    let cut = interval::double(lo, hi);
-    let k = cut.exponent as usize;
-    let by = cut.leftover as usize;
-    moves::move_down(s, lo as usize);
-    whole_within(s, k);
-    if by > 0 {
-        moves::meet_moved(s, by);
-    }
-}
-
 // ---- U and R: the right operand in the first register of a slice, the left one in the second, d words in
 
-// Bit t of the first register becomes whether it is set at one of the 2 ^ k bits from t on, with that of the second set at each before. The second is
-// used up.
-fn until_within(s: &mut [u64], d: usize, k: usize)
+// How such windows double: what becomes of the first register by the second. The second's bits are joined.
+trait Reaching: Joining {
+    ghost step: { Bool → Bool → Bool → Bool };
+
+    fn reach(s: &mut [u64], d: usize, by: usize)
+        ensures { IntoFirst (λ c e t. step (bit_at c t) (bit_at e t) (bit_at c (t + by))) d s.old s.new };
+}
+
+// U: the second window counts where the left operand holds at every bit of the first.
+impl Reaching for EveryBit {
+    ghost step = { λ x y z. x || y && z };
+
+    fn reach(s: &mut [u64], d: usize, by: usize) {
+        moves::bridge(s, d, by);
+    }
+}
+
+// R over the whole interval: the second window counts where the left operand holds at no bit of the first.
+impl Reaching for AnyBit {
+    ghost step = { λ x y z. x && (y || z) };
+
+    fn reach(s: &mut [u64], d: usize, by: usize) {
+        moves::sustain(s, d, by);
+    }
+}
+
+// Bit t of the first register becomes that of the window of the 2 ^ k bits from t on. The second is used up.
+fn reach_within<R: Reaching>(s: &mut [u64], d: usize, k: usize)
     requires { (d ≤ length s.old) × (length s.old ≤ d + d) × (k < 64) }
-    ensures { Within until all d k s.old s.new }
+    ensures { (W : ℕ → ℕ → ℕ → (ℕ → Bool) → (ℕ → Bool) → ℕ → Bool) (Q : ℕ → (ℕ → Bool) → ℕ → Bool) → Binary W Q R.step R.join → Within W Q d k s.old s.new }
 {
     for j in 0..k {
-        moves::bridge(s, d, 1 << j);
-        moves::meet_moved(&mut s[d..], 1 << j);
+        R::reach(s, d, 1 << j);
+        R::join_moved(&mut s[d..], 1 << j);
     }
 }
 
@@ -105,25 +143,18 @@ fn until_within(s: &mut [u64], d: usize, k: usize)
 fn misplaced(len: usize, d: usize, e: usize) -> bool
     ensures { result ≡ misplaced d e len }
 {
-    if e < d {
-        return true;
-    }
-    if len < e {
-        return true;
-    }
-    (d < len - e) | (e - d < len - e)
+    e < d || len < e || d < len - e || e - d < len - e
 }
 
-// The first register's windows are widened by 2 ^ k - 1 bits for each of the first `count` parts k, where the second is set before.
-fn until_parts(s: &mut [u64], d: usize, e: usize, ks: [u8; MAX_PARTS], count: usize)
+// The first register's windows are widened by 2 ^ k - 1 bits for each part k.
+fn reach_parts<R: Reaching>(s: &mut [u64], d: usize, e: usize, ks: &[u8])
     requires three { Three d e s.old }
-    requires count_le_max_parts { (count ≤ max_parts) × ((i : ℕ) → i < count → get_or ks i 0 < 64) }
-    ensures { s.new ≡ by_parts until all d e count ks s.old }
+    requires small { (i : ℕ) → i < length ks.now → get_or ks.now i 0 < 64 }
+    ensures { (W : ℕ → ℕ → ℕ → (ℕ → Bool) → (ℕ → Bool) → ℕ → Bool) (Q : ℕ → (ℕ → Bool) → ℕ → Bool) → Binary W Q R.step R.join → s.new ≡ by_parts W Q d e (length ks.now) ks.now s.old }
 {
-    for i in 0..count {
-        let k = ks[i] as usize;
+    for k in ks {
         pair::copy_into(&mut s[d..], e - d);
-        until_within(s, e, k);
+        reach_within::<R>(s, e, *k as usize);
     }
 }
 
@@ -149,19 +180,35 @@ fn two_flipped(s: &mut [u64], d: usize, e: usize, n: usize)
     column::complement(&mut s[d..end], n);
 }
 
+// Bit t of the first register becomes that of the window of the bits from t + lo to t + hi. Nothing changes where the interval is refused or the registers
+// are misplaced.
+fn reach_later<R: Reaching>(s: &mut [u64], d: usize, e: usize, lo: u16, hi: u16)
+    ensures { (W : ℕ → ℕ → ℕ → (ℕ → Bool) → (ℕ → Bool) → ℕ → Bool) (Q : ℕ → (ℕ → Bool) → ℕ → Bool) → Binary W Q R.step R.join → s.new ≡ pick (bad_interval lo hi || misplaced d e (length s.old)) s.old (later W Q d e lo hi s.old) }
+{
+    if misplaced(s.len(), d, e) {
+        return;
+    }
+    let Ok(cut) = interval::split(lo, hi) else {
+        return;
+    };
+    two_down(s, d, e, lo as usize);
+    reach_parts::<R>(s, d, e, &cut.ks[..cut.count]);
+}
+
 // U: bit t of the first register becomes whether it is set at one of the bits from t + lo to t + hi, with that of the second set from t + lo on and before.
 // Nothing changes where the interval is refused or the registers are misplaced.
 pub fn until_later(s: &mut [u64], d: usize, e: usize, lo: u16, hi: u16)
     ensures { s.new ≡ pick (bad_interval lo hi || misplaced d e (length s.old)) s.old (until_later d e lo hi s.old) }
 {
-    if interval::bad_interval(lo, hi) | misplaced(s.len(), d, e) {
-        return;
-    }
-    let cut = interval::split(lo, hi);
-    let ks = cut.parts;
-    let count = cut.count;
-    two_down(s, d, e, lo as usize);
-    until_parts(s, d, e, ks, count);
+    reach_later::<EveryBit>(s, d, e, lo, hi);
+}
+
+// The same registers for U's no and R's yes while a trace grows: bit t of the first one becomes whether each of its bits from t + lo to t + hi is set or has a
+// set bit of the second before it, from t + lo on; those past the words count too, which are clear. Nothing changes in the same cases.
+pub fn whole_release_later(s: &mut [u64], d: usize, e: usize, lo: u16, hi: u16)
+    ensures { s.new ≡ pick (bad_interval lo hi || misplaced d e (length s.old)) s.old (whole_release_later d e lo hi s.old) }
+{
+    reach_later::<AnyBit>(s, d, e, lo, hi);
 }
 
 // R: the same of the registers' opposites below n, and its opposite below n. Nothing changes in the same cases.
@@ -175,46 +222,4 @@ pub fn release_later(s: &mut [u64], d: usize, e: usize, lo: u16, hi: u16, n: usi
     two_flipped(s, d, e, n);
     until_later(s, d, e, lo, hi);
     column::complement(&mut s[0..m], n);
-}
-
-// ---- the same registers for U's no and R's yes while a trace grows: every bit of the interval counts, those past the words too, which are clear
-
-// Bit t of the first register becomes whether each of its 2 ^ k bits from t on is set or has a set bit of the second before it, from t on. The second is
-// used up.
-fn whole_release_within(s: &mut [u64], d: usize, k: usize)
-    requires { (d ≤ length s.old) × (length s.old ≤ d + d) × (k < 64) }
-    ensures { Within (λ n. whole_release) any d k s.old s.new }
-{
-    for j in 0..k {
-        moves::sustain(s, d, 1 << j);
-        moves::join_moved(&mut s[d..], 1 << j);
-    }
-}
-
-// The first register's windows are widened by 2 ^ k - 1 bits for each of the first `count` parts k.
-fn whole_release_parts(s: &mut [u64], d: usize, e: usize, ks: [u8; MAX_PARTS], count: usize)
-    requires three { Three d e s.old }
-    requires count_le_max_parts { (count ≤ max_parts) × ((i : ℕ) → i < count → get_or ks i 0 < 64) }
-    ensures { s.new ≡ by_parts (λ n. whole_release) any d e count ks s.old }
-{
-    for i in 0..count {
-        let k = ks[i] as usize;
-        pair::copy_into(&mut s[d..], e - d);
-        whole_release_within(s, e, k);
-    }
-}
-
-// Bit t of the first register becomes whether each of its bits from t + lo to t + hi is set or has a set bit of the second before it, from t + lo on.
-// Nothing changes where the interval is refused or the registers are misplaced.
-pub fn whole_release_later(s: &mut [u64], d: usize, e: usize, lo: u16, hi: u16)
-    ensures { s.new ≡ pick (bad_interval lo hi || misplaced d e (length s.old)) s.old (whole_release_later d e lo hi s.old) }
-{
-    if interval::bad_interval(lo, hi) | misplaced(s.len(), d, e) {
-        return;
-    }
-    let cut = interval::split(lo, hi);
-    let ks = cut.parts;
-    let count = cut.count;
-    two_down(s, d, e, lo as usize);
-    whole_release_parts(s, d, e, ks, count);
 }

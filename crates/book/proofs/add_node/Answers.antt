@@ -1,27 +1,24 @@
--- The builder's number decides; an accepted node has a free place. Assumes nothing.
-use Prim.Native.Nat.{◌<◌}
+-- The builder's answer decides; an accepted node has a free place. Assumes nothing.
+use mathlib.Core.Path.{◌≡◌, refl}
 use native.Mathlib.Omega.{arith}
+use borrow.Author.Rules.{rules}
+use Rattle.std.specs.Prelude.{Err}
+use Rattle.refusals.proofs.Positive.{refusal_above}
 use Rattle.book.proofs.Steps.{node_refused, node_free, node_step_lem}
 use Rattle.book.proofs.add_node.Goals as goal
 
-pub returns-then-a-ne0 : goal.returns-then-a-ne0
-returns-then-a-ne0 c =
+pub returns-in_err-table : goal.returns-in_err-table
+returns-in_err-table c =
     let a = c.args in
-    node_refused a.w a.r a.e c.node_by.ensures c.add_node-a.ensures c.if-a-ne0.true
+    let f = c.in_err-table.field-0.0 in
+    let r : c.from_residual.result ≡ Err f = search rules in
+    rw r (node_refused a.w a.r a.e c.node_by.ensures c.in_err-table.ensures (refusal_above f))
 
-pub overflow_add-seen : goal.overflow_add-seen
-overflow_add-seen c =
-    let below : (c.args.w.table.node_count < 64) = (let a = c.args in
-    node_free a.w a.r a.e c.node_by.ensures c.add_node-a.ensures c.if-a-ne0.false) in
-    omega (arith, below)
+pub overflow_add-v : goal.overflow_add-v
+overflow_add-v c = let a = c.args in omega (arith, node_free a.w a.r a.e c.node_by.ensures c.in_ok-table.ensures refl)
 
-pub overflow_cast-seen : goal.overflow_cast-seen
-overflow_cast-seen c =
-    let below : (c.args.w.table.node_count < 64) = (let a = c.args in
-    node_free a.w a.r a.e c.node_by.ensures c.add_node-a.ensures c.if-a-ne0.false) in
-    omega (arith, below)
+pub overflow_cast-v : goal.overflow_cast-v
+overflow_cast-v c = let a = c.args in omega (arith, node_free a.w a.r a.e c.node_by.ensures c.in_ok-table.ensures refl)
 
 pub returns : goal.returns
-returns c =
-    let a = c.args in
-    node_step_lem a.w a.r a.e c.node_by.ensures c.add_node-a.ensures c.if-a-ne0.false
+returns c = let a = c.args in node_step_lem a.w a.r a.e c.node_by.ensures c.in_ok-table.ensures refl

@@ -1,7 +1,10 @@
 -- The steps of the code: the state of its walk along the chain, and what each function does with it.
 use Rattle.std.specs.Prelude.{ℕ, ◌+◌, ◌-◌, ◌*◌, Bool, true, ◌&&◌, ◌||◌, not, List, [], ◌∷◌, ◌++◌, get_or, set, replicate, ltb, leb, eqb}
+use Rattle.std.specs.Prelude.{Result, Ok, Err}
 use Rattle.limits.specs.Limits.{record_bytes}
 use Rattle.refusals.specs.Numbers.{LINK, FORM, RULELESS}
+use Rattle.refusals.specs.Refusals.{number_of}
+use Rattle.refusals.specs.declared.Refusal.{Refusal}
 use Rattle.lists.specs.Choice.{Row, pick, ◌if◌, first}
 use Rattle.table.specs.Nodes.{op_of, uses_of, no_table}
 use Rattle.table.specs.declared.Node.{Node}
@@ -9,10 +12,8 @@ use Rattle.table.specs.declared.Rule.{Rule}
 use Rattle.builder.specs.Adding.{add_node_rows, add_rule_rows, with_node, with_rule}
 use Rattle.book.specs.declared.Entry.{Entry}
 use Rattle.book.specs.declared.Walk.{Walk}
-use Rattle.book.specs.declared.Tried.{Tried}
-use Rattle.book.specs.declared.Reading.{Reading}
 use Rattle.book.specs.Entries.{is_node, name_of, bad_form}
-use Rattle.book.specs.Reading.{accepted, unless}
+use Rattle.book.specs.Reading.{Reading, accepted, unless}
 
 -- ---- the state of the walk: the table so far, and of each record of the book
 -- 0 if it is not passed, 1 if it is passed and no node, and 2 + p if it is the node at place p
@@ -68,18 +69,23 @@ builder_rows w e = pick (is_node e.kind) (add_node_rows w.table (node_by w e)) (
 unfoldable pub walk_fault : ℕ → Walk → Entry → ℕ
 walk_fault n w e = first (record_rows n w e ++ builder_rows w e)
 
--- ---- a record tried: its number and the walk w as it came, or 0 and the walk v
-abbrev pub step_by : ℕ → Walk → Walk → Tried
-step_by number w v = record { number = number; walk = pick (eqb number 0) v w }
+-- ---- a record tried: the walk v where the number is 0, and otherwise the number of the refusal
+abbrev pub answer_by : {A : Type 0} → ℕ → A → Result A ℕ
+answer_by number v = pick (eqb number 0) (Ok v) (Err number)
 
-abbrev pub node_step : Walk → ℕ → Entry → Tried
-node_step w r e = step_by (first (add_node_rows w.table (node_by w e))) w (node_added w r e)
+-- what an answer of the code says
+abbrev pub walk_told : Result Walk Refusal → Result Walk ℕ
+walk_told (Ok w) = Ok w
+walk_told (Err e) = Err (number_of e)
 
-abbrev pub rule_step : Walk → Entry → Tried
-rule_step w e = step_by (first (add_rule_rows w.table (rule_by w e))) w (rule_added w e)
+abbrev pub node_step : Walk → ℕ → Entry → Result Walk ℕ
+node_step w r e = answer_by (first (add_node_rows w.table (node_by w e))) (node_added w r e)
 
-abbrev pub stepped : ℕ → Walk → ℕ → Entry → Tried
-stepped n w r e = step_by (walk_fault n w e) w (added w r e)
+abbrev pub rule_step : Walk → Entry → Result Walk ℕ
+rule_step w e = answer_by (first (add_rule_rows w.table (rule_by w e))) (rule_added w e)
+
+abbrev pub stepped : ℕ → Walk → ℕ → Entry → Result Walk ℕ
+stepped n w r e = answer_by (walk_fault n w e) (added w r e)
 
 -- ---- the start and the end
 -- the head is passed, and nothing else

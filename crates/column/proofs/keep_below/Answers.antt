@@ -1,22 +1,8 @@
--- `column::keep_below` meets its contract. The invariant: the first w words are cut. Assumes nothing.
-use mathlib.Core.Path.{refl}
-use native.Mathlib.Omega.{arith}
+-- `column::keep_below` meets its contract. Assumes nothing.
+use mathlib.Core.Bool.{◌&&◌}
 use borrow.Author.Rules.{rules}
-use lib.ListN.{length}
-use Rattle.lists.specs.Bits.{below, bit_at}
-use Rattle.column.proofs.Sweeps.{swept_none, swept_whole, masked_next}
+use Rattle.column.proofs.Words.{bit_and_by}
 use Rattle.column.proofs.keep_below.Goals as goal
 
-pub loop-w-init : goal.loop-w-init
-loop-w-init c = (swept_none, search rules)
-
-pub loop-w-preserved : goal.loop-w-preserved
-loop-w-preserved c =
-    let l = c.loop-w in
-    (masked_next (length c.args.s.now) (search rules) (omega arith) (c.slice_known-in-loop-w-1.given l.w).fits c.below_word.ensures (λ q. q) l.invariant.0, search rules)
-
-pub shape_of-s : goal.shape_of-s
-shape_of-s c = c.loop-w.invariant.0.long
-
 pub returns : goal.returns
-returns c = let i = c.loop-w.invariant in swept_whole (λ x. below c.args.n (bit_at x)) refl i.0 i.1 c.loop-w-test.false
+returns c = c.mask.ensures ◌&&◌ (λ x y z a b k i h. bit_and_by x y (search rules) i)

@@ -1,8 +1,7 @@
 -- The two columns of each node in the halves of the scratch, and what the functions that write them leave there.
-use Rattle.std.specs.Prelude.{◌≡◌, Bool, true, false, not, ◌||◌, ◌&&◌, List, ℕ, ◌+◌, ◌*◌, ◌≤◌, ◌<◌, ltb, leb, eqb, length, get_or, drop}
+use Rattle.std.specs.Prelude.{◌≡◌, Bool, true, false, not, ◌||◌, ◌&&◌, List, ℕ, ◌+◌, ◌*◌, ◌≤◌, ◌<◌, ltb, length, get_or, drop}
 use Rattle.limits.specs.Limits.{max_nodes, max_trace, register_words, scratch_words, early_scratch_words}
 use Rattle.lists.specs.Bits.{bit_at, words, packed}
-use Rattle.lists.specs.Choice.{pick}
 use Rattle.mltl.specs.Mltl.{eventually}
 use Rattle.mltl.specs.Known.{Value, no, undecided, yes, is_yes, is_no, known, whole, whole_release}
 use Rattle.column.specs.Column.{register, filled}
@@ -24,25 +23,82 @@ half p xs = register p scratch_words xs
 abbrev pub in_half : ℕ → ℕ → ℕ → List ℕ → List ℕ
 in_half p i n xs = register (register_words * i) (words n) (half p xs)
 
--- ---- one half: a column by the class of the node's kind (and, or; F, G; U, R), from the operands' registers c and d
-abbrev pub join_column : ℕ → Node → ℕ → List ℕ → List ℕ → ℕ → Bool
-join_column kind x n c d =
-    pick (leb kind 6) (both ◌||◌ c d) (pick (leb kind 8) (eventually (64 * words n) x.lo x.hi (bit_at c)) (until_of x.lo x.hi (words n) c d))
+-- ---- operators
+-- those with operands, but not
+abbrev pub operates : Op → Bool
+operates Unknown = false
+operates Signal = false
+operates Top = false
+operates Bottom = false
+operates Not = false
+operates And = true
+operates Or = true
+operates Finally = true
+operates Globally = true
+operates Until = true
+operates Release = true
 
-abbrev pub meet_column : ℕ → Node → ℕ → List ℕ → List ℕ → ℕ → Bool
-meet_column kind x n c d =
-    pick (leb kind 6) (both ◌&&◌ c d) (pick (leb kind 8) (whole x.lo x.hi (bit_at c)) (whole_release x.lo x.hi (bit_at c) (bit_at d)))
+-- true, false, and what is none
+abbrev pub constant : Op → Bool
+constant Unknown = true
+constant Signal = false
+constant Top = true
+constant Bottom = true
+constant Not = false
+constant And = false
+constant Or = false
+constant Finally = false
+constant Globally = false
+constant Until = false
+constant Release = false
+
+-- ---- one half: a column by the class of the operator (and, or; F, G; U, R), from the operands' registers c and d; clear for any other operator
+abbrev pub join_column : Op → Node → ℕ → List ℕ → List ℕ → ℕ → Bool
+join_column Unknown x n c d = filled 0
+join_column Signal x n c d = filled 0
+join_column Top x n c d = filled 0
+join_column Bottom x n c d = filled 0
+join_column Not x n c d = filled 0
+join_column And x n c d = both ◌||◌ c d
+join_column Or x n c d = both ◌||◌ c d
+join_column Finally x n c d = eventually (64 * words n) x.lo x.hi (bit_at c)
+join_column Globally x n c d = eventually (64 * words n) x.lo x.hi (bit_at c)
+join_column Until x n c d = until_of x.lo x.hi (words n) c d
+join_column Release x n c d = until_of x.lo x.hi (words n) c d
+
+abbrev pub meet_column : Op → Node → ℕ → List ℕ → List ℕ → ℕ → Bool
+meet_column Unknown x n c d = filled 0
+meet_column Signal x n c d = filled 0
+meet_column Top x n c d = filled 0
+meet_column Bottom x n c d = filled 0
+meet_column Not x n c d = filled 0
+meet_column And x n c d = both ◌&&◌ c d
+meet_column Or x n c d = both ◌&&◌ c d
+meet_column Finally x n c d = whole x.lo x.hi (bit_at c)
+meet_column Globally x n c d = whole x.lo x.hi (bit_at c)
+meet_column Until x n c d = whole_release x.lo x.hi (bit_at c) (bit_at d)
+meet_column Release x n c d = whole_release x.lo x.hi (bit_at c) (bit_at d)
 
 -- those of node x in a half xs
 unfoldable pub join_column_in : Node → ℕ → List ℕ → ℕ → Bool
-join_column_in x n xs = join_column x.kind x n (register (register_words * x.left) (words n) xs) (register (register_words * x.right) (words n) xs)
+join_column_in x n xs = join_column (op_of x.kind) x n (register (register_words * x.left) (words n) xs) (register (register_words * x.right) (words n) xs)
 
 unfoldable pub meet_column_in : Node → ℕ → List ℕ → ℕ → Bool
-meet_column_in x n xs = meet_column x.kind x n (register (register_words * x.left) (words n) xs) (register (register_words * x.right) (words n) xs)
+meet_column_in x n xs = meet_column (op_of x.kind) x n (register (register_words * x.left) (words n) xs) (register (register_words * x.right) (words n) xs)
 
 -- the half that is joined
-abbrev pub join_place : ℕ → ℕ
-join_place kind = pick (eqb kind 6 || eqb kind 7 || eqb kind 9) 0 scratch_words
+abbrev pub join_place : Op → ℕ
+join_place Unknown = scratch_words
+join_place Signal = scratch_words
+join_place Top = scratch_words
+join_place Bottom = scratch_words
+join_place Not = scratch_words
+join_place And = scratch_words
+join_place Or = 0
+join_place Finally = 0
+join_place Globally = scratch_words
+join_place Until = 0
+join_place Release = scratch_words
 
 -- ---- both halves: the yes and the no column of a node, from the yes and the no registers of its operands
 abbrev pub yes_column : Op → Node → ℕ → List ℕ → List ℕ → List ℕ → List ℕ → List ℕ → ℕ → Bool
@@ -88,11 +144,6 @@ pub record TwoSteps (b m : ℕ) (f g : ℕ → Bool) (xs ys : List ℕ) : Type 0
 
 abbrev pub NodeStep : Node → ℕ → ℕ → List ℕ → List ℕ → List ℕ → Type 0
 NodeStep x i n states xs ys = TwoSteps (register_words * i) (words n) (yes_in x n states xs) (no_in x n states xs) xs ys
-
--- a step where `on`, and nothing where not
-pub record Maybe (on : Bool) (x : Node) (i : ℕ) (states xs ys : List ℕ) : Type 0 where
-  pub step : on ≡ true → NodeStep x i (length states) states xs ys
-  pub stay : on ≡ false → ys ≡ xs
 
 -- the registers of each marked one of the first k nodes hold where its formula is yes and where it is no, and from the end of the halves on ys is xs
 pub record Columns (k : ℕ) (nodes : List Node) (marks : ℕ) (states xs ys : List ℕ) : Type 0 where

@@ -1,5 +1,9 @@
--- The upper half, over what the lower half left. Assumes nothing.
+-- The bytes are copied. Assumes nothing.
+use mathlib.Core.Path.{◌∙◌}
+use native.Mathlib.Omega.{arith}
+use borrow.Author.Rules.{rules}
+use Rattle.flat.proofs.Sessions.{eight_copied}
 use Rattle.flat.proofs.put_eight.Goals as goal
 
 pub returns : goal.returns
-returns c = cc
+returns c = let a = c.args in eight_copied a.b.now a.at a.x (search rules) (omega arith) (c.copy_from_slice.ensures.after ∙ c.to_le_bytes.ensures)

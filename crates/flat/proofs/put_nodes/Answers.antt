@@ -1,32 +1,22 @@
--- A loop over the nodes that writes the first places of a slice, eight at a time. Assumes nothing.
-use mathlib.Core.Path.{◌≡◌}
+-- A loop over the nodes that writes the bytes behind the first ones, a node at a time. Assumes nothing.
+use mathlib.Core.Path.{◌≡◌, ◌∙◌}
 use native.Mathlib.Omega.{arith}
 use borrow.Author.Rules.{rules}
-use Rattle.lists.proofs.Sequences.{length_mapped}
 use Rattle.flat.proofs.Laws.{over_from, node_put}
 use Rattle.flat.proofs.put_nodes.Goals as goal
 
 pub loop-i-init : goal.loop-i-init
-loop-i-init c = (search rules, search rules, over_from _ _ 2 c.requires.1)
-
-pub bounds-t-i : goal.bounds-t-i
-bounds-t-i c = search (rules, length_mapped)
-
-pub put_bytes-requires : goal.put_bytes-requires
-put_bytes-requires c = search rules
-
-pub put_bytes-requires-in-loop-i : goal.put_bytes-requires-in-loop-i
-put_bytes-requires-in-loop-i c = search rules
+loop-i-init c = (search rules, over_from _ _ 2 c.requires)
 
 pub loop-i-preserved : goal.loop-i-preserved
 loop-i-preserved c =
     let a = c.args in
-    let o =
-    node_put a.t a.out.now c.loop-i.invariant.0 c.loop-i.i (omega arith) c.put_bytes.ensures c.put_bytes-in-loop-i.ensures c.loop-i.invariant.2 in
-    (c.loop-i.invariant.0, omega arith, o)
+    let l = c.loop-i in
+    let o = node_put a.t a.out.now (search rules) l.i (omega arith) (omega arith) (c.copy_from_slice.ensures.after ∙ c.node_bytes.ensures) l.invariant.1 in
+    (omega arith, o)
 
 pub returns : goal.returns
 returns c =
     let l = c.loop-i in
     let e : l.i ≡ 64 = omega arith in
-    rw e at l.invariant.2.is
+    rw e at l.invariant.1.is

@@ -7,10 +7,10 @@ use Rattle.interval.proofs.Laws.{left_lt, fill_none, fill_length, fill_more}
 use Rattle.interval.proofs.+fill.Goals as goal
 
 pub returns-then-rest-eq0 : goal.returns-then-rest-eq0
-returns-then-rest-eq0 t c = fill_none c.args.rest c.args.n c.args.ks c.if-rest-eq0.true
+returns-then-rest-eq0 t c = fill_none c.args.rest c.args.found.count c.args.found.ks c.if-rest-eq0.true
 
-pub bounds-next-n : goal.bounds-next-n
-bounds-next-n t c = omega (arith, fill_length c.args.rest (pos_of_ne-zero c.if-rest-eq0.false))
+pub bounds-ks-n : goal.bounds-ks-n
+bounds-ks-n t c = omega (arith, fill_length c.args.rest (pos_of_ne-zero c.if-rest-eq0.false))
 
 pub fill-requires : goal.fill-requires
 fill-requires t c =
@@ -23,5 +23,5 @@ fill-requires t c =
 pub returns : goal.returns
 returns t c =
     let a = c.args in
-    fill_more a.rest c.largest-k.result c.without.result a.n c.fill.result.n a.ks c.fill.result.ks
+    fill_more a.rest c.largest-k.result c.without.result a.found.count c.fill.result.count a.found.ks c.fill.result.ks
     (pos_of_ne-zero c.if-rest-eq0.false) c.largest-k.ensures.0 c.without.ensures c.fill.ensures

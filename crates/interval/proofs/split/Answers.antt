@@ -18,8 +18,8 @@ returns-then-bad_interval c = simp (sym c.bad_interval.ensures ∙ c.if-bad_inte
 pub overflow_sub-hi : goal.overflow_sub-hi
 overflow_sub-hi c = let a = c.args in let f = interval_fits a.lo a.hi (kept c) in omega arith
 
-pub fill-f-requires : goal.fill-f-requires
-fill-f-requires c =
+pub fill-requires : goal.fill-requires
+fill-requires c =
     let a = c.args in
     let f = interval_fits a.lo a.hi (kept c) in
     omega (arith, parts_12 (a.hi - a.lo) (omega arith))
@@ -27,5 +27,5 @@ fill-f-requires c =
 pub returns : goal.returns
 returns c =
     let a = c.args in
-    let f = c.fill-f in
-    splitting_is a.lo a.hi f.result.n f.result.ks (kept c.before.before) f.ensures
+    let f = c.fill in
+    splitting_is a.lo a.hi f.result.count f.result.ks (kept c.before) f.ensures

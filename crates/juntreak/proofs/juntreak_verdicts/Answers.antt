@@ -3,5 +3,4 @@ use Rattle.juntreak.proofs.Laws.{answered_by}
 use Rattle.juntreak.proofs.juntreak_verdicts.Goals as goal
 
 pub returns : goal.returns
-returns c =
-    answered_by c.read_table-t.ensures c.verdicts.ensures
+returns c = rw c.code.ensures (answered_by c.read_table-t.ensures c.verdicts.ensures)

@@ -3,7 +3,7 @@ use Prim.Native.Nat.{ℕ, ◌<◌}
 use mathlib.Core.Path.{◌≡◌, sym, ◌∙◌}
 use mathlib.Core.Bool.{true, ◌&&◌}
 use borrow.Author.Rules.{rules}
-use borrow.Author.Tests.{not-true, not-false, ltb-true}
+use borrow.Author.Tests.{ltb-true}
 use lib.Dec.{ltb}
 use Rattle.lists.proofs.Tests.{true_left, true_right}
 use Rattle.lines.proofs.Laws.{reached_none, reached_stop, more_read, part_read, bad_read, further, value_fits}
@@ -16,30 +16,30 @@ tests {i} {n} {k} {m} e = (ltb-true i n (true_left (ltb i n) (ltb k m) e), ltb-t
 pub loop-i-init : goal.loop-i-init
 loop-i-init c = reached_none _ _ _ _ _
 
-pub returns-then-not-q : goal.returns-then-not-q
-returns-then-not-q c =
-    let w = part_read c.loop-i.invariant c.scan_line-q.result c.scan_line-q.ensures (tests c.loop-i-test.true).1 (not-true _ c.if-not-q.true) in
+pub returns-in_default : goal.returns-in_default
+returns-in_default c =
+    let e = c.loop-i-test.true in
+    let w = part_read c.loop-i.invariant c.scan_line-scan.result c.scan_line-scan.ensures (tests e).1 c.in_default.is (tests e).0 in
     record { value = w.0; block_after = w.1 }
 
 pub returns-then-not-is_state : goal.returns-then-not-is_state
 returns-then-not-is_state c =
-    let w = bad_read c.loop-i.invariant c.scan_line-q.result c.scan_line-q.ensures (tests c.loop-i-test.true).1 (not-false _ c.if-not-q.false)
+    let w = bad_read c.loop-i.invariant c.scan_line-scan.result c.scan_line-scan.ensures (tests c.loop-i-test.true).1 _ c.in-Some.is
     (sym c.is_state.ensures ∙ c.if-not-is_state.true) in
     record { value = rw c.start.ensures w.0; block_after = w.1 }
 
 pub overflow_cast-block : goal.overflow_cast-block
 overflow_cast-block c =
-    search (rules, value_fits c.scan_line-q.result.line (sym c.is_state.ensures ∙ c.if-not-is_state.false))
+    search (rules, value_fits c.scan_line-scan.result.line (sym c.is_state.ensures ∙ c.if-not-is_state.false))
 
 pub loop-i-smaller : goal.loop-i-smaller
 loop-i-smaller c =
-    further c.loop-i.invariant c.scan_line-q.result c.scan_line-q.ensures (tests c.loop-i-test.true).1 (not-false _ c.if-not-q.false)
-    (tests c.loop-i-test.true).0
+    further c.loop-i.invariant c.scan_line-scan.result c.scan_line-scan.ensures (tests c.loop-i-test.true).1 _ c.in-Some.is (tests c.loop-i-test.true).0
 
 pub loop-i-preserved : goal.loop-i-preserved
 loop-i-preserved c =
     rw c.start-l.ensures
-    (more_read c.loop-i.invariant c.scan_line-q.result c.scan_line-q.ensures (tests c.loop-i-test.true).1 (not-false _ c.if-not-q.false)
+    (more_read c.loop-i.invariant c.scan_line-scan.result c.scan_line-scan.ensures (tests c.loop-i-test.true).1 _ c.in-Some.is
     (sym c.is_state.ensures ∙ c.if-not-is_state.false))
 
 pub returns : goal.returns

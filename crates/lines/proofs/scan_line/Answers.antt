@@ -6,10 +6,10 @@ use Rattle.lines.proofs.scan_line.Goals as goal
 pub loop-i-init : goal.loop-i-init
 loop-i-init c = refl
 
-pub returns-then-b-eq10 : goal.returns-then-b-eq10
-returns-then-b-eq10 c =
+pub returns-then-part-i-eq10 : goal.returns-then-part-i-eq10
+returns-then-part-i-eq10 c =
     let p = c.loop-i in
-    sym (scan_end c.args.part.now p.i p.l c.loop-i-test.true c.if-b-eq10.true) ∙ p.invariant
+    sym (scan_end c.args.part.now p.i p.l c.loop-i-test.true c.if-part-i-eq10.true) ∙ p.invariant
 
 pub with_byte-l-requires : goal.with_byte-l-requires
 with_byte-l-requires c = tt
@@ -18,7 +18,7 @@ pub loop-i-preserved : goal.loop-i-preserved
 loop-i-preserved c =
     let p = c.loop-i in
     let s = c.args.part.now in
-    rw c.with_byte-l.ensures (sym (scan_more s p.i p.l c.loop-i-test.true c.if-b-eq10.false) ∙ p.invariant)
+    rw c.with_byte-l.ensures (sym (scan_more s p.i p.l c.loop-i-test.true c.if-part-i-eq10.false) ∙ p.invariant)
 
 pub returns : goal.returns
 returns c =

@@ -1,32 +1,12 @@
--- `moves::join_register` meets its contract. The invariant: the first w words are joined. Assumes nothing.
+-- `moves::join_register` meets its contract. Assumes nothing.
 use mathlib.Core.Path.{refl}
-use native.Mathlib.Nat.{le_antisymm}
+use mathlib.Core.Bool.{◌||◌}
 use native.Mathlib.Omega.{arith}
 use borrow.Author.Rules.{rules}
-use lib.ListN.{length}
-use Rattle.column.proofs.Sweeps.{swept_none, swept_to, set_long}
-use Rattle.moves.proofs.Sweeps.{joined_next, joined_done}
+use Rattle.column.proofs.Words.{bit_or_by}
+use Rattle.column.proofs.Sweeps.{swept_whole}
+use Rattle.moves.specs.Moves.{joined}
 use Rattle.moves.proofs.join_register.Goals as goal
 
-pub returns-then-left-eq0 : goal.returns-then-left-eq0
-returns-then-left-eq0 c = joined_done c.args.by refl (λ i. search rules) (omega arith) swept_none
-
-pub loop-w-init : goal.loop-w-init
-loop-w-init c = (swept_none, search rules)
-
-pub loop-w-preserved : goal.loop-w-preserved
-loop-w-preserved c =
-    let l = c.loop-w in
-    let a = c.args in
-    (joined_next a.by (length a.s.now) (omega arith) (omega arith) (search rules) c.near_word.ensures l.invariant.0, search rules)
-
-pub shape_of-s : goal.shape_of-s
-shape_of-s c = set_long c.loop-w.invariant.0 _ _
-
 pub returns : goal.returns
-returns c =
-    let i = c.loop-w.invariant in
-    let a = c.args in
-    joined_done a.by refl (λ i. search rules) (omega arith)
-    (joined_next a.by (length a.s.now) (omega arith) (omega arith) (search rules) c.last_word.ensures
-    (swept_to i.0 (le_antisymm i.1 c.loop-w-test.false)))
+returns c = swept_whole (joined c.args.by) refl (c.sweep.ensures (λ o p m. o || m) (λ u v x z f g h k i l. bit_or_by u x (search rules) i)) (omega arith) (omega arith)

@@ -1,9 +1,12 @@
 -- `moves::meet_moved` meets its contract. Assumes nothing.
+use mathlib.Core.Path.{refl}
+use mathlib.Core.Bool.{◌&&◌}
 use native.Mathlib.Omega.{arith}
-use Rattle.moves.proofs.Sweeps.{vanishes, met_past}
+use borrow.Author.Rules.{rules}
+use Rattle.column.proofs.Words.{bit_and_by}
+use Rattle.column.proofs.Sweeps.{swept_whole}
+use Rattle.moves.specs.Moves.{met}
 use Rattle.moves.proofs.meet_moved.Goals as goal
 
 pub returns : goal.returns
-returns c =
-    let a = c.args in
-    vanishes c.meet_words.ensures (omega arith) c.clear.ensures (λ t h. met_past a.by a.s.now t (omega arith))
+returns c = swept_whole (met c.args.by) refl (c.sweep.ensures (λ o p m. o && m) (λ u v x z f g h k i l. bit_and_by u x (search rules) i)) (omega arith) (omega arith)

@@ -8,6 +8,3 @@ use Rattle.needed.proofs.needed.Given as goal
 abbrev pub invariant-loop-i : goal.invariant-loop-i
 invariant-loop-i l =
     (l.i ≤ l.count) × (l.i ≤ 64) × (length l.nodes ≡ 64) × Marking l.seed (take l.count l.nodes) l.m l.i
-
-abbrev pub decreases-loop-i : goal.decreases-loop-i
-decreases-loop-i l = l.i

@@ -1,16 +1,12 @@
--- `pair::copy_into` meets its contract. The invariant: the first w words of the second register are written. Assumes nothing.
+-- `pair::copy_into` meets its contract. Assumes nothing.
+use native.Mathlib.Omega.{arith}
 use borrow.Author.Rules.{rules}
-use Rattle.pair.proofs.Pairs.{second, into_none, into_next, into_done}
+use Rattle.pair.specs.Pair.{room}
+use Rattle.pair.proofs.Pairs.{laid_copy}
 use Rattle.pair.proofs.copy_into.Goals as goal
 
-pub loop-w-init : goal.loop-w-init
-loop-w-init c = into_none second c.room_of-words.ensures
-
-pub loop-w-preserved : goal.loop-w-preserved
-loop-w-preserved c = into_next c.loop-w.invariant (search rules) (search rules) (search rules) (λ i. (c.slice_known-in-loop-w-1.given i).fits) (λ b a. a)
-
-pub shape_of-s : goal.shape_of-s
-shape_of-s c = c.loop-w.invariant.swept.long
-
-pub returns : goal.returns
-returns c = into_done c.loop-w.invariant c.loop-w-test.false
+pub returns-then-words-gt0 : goal.returns-then-words-gt0
+returns-then-words-gt0 c =
+    let a = c.args in
+    let w = c.room_of-words.result in
+    laid_copy a.d 0 w (room a.d a.s.now) (λ i. search rules) (omega (arith, c.room_of-words.ensures)) (omega (arith, c.room_of-words.ensures)) c.copy_within.ensures.after

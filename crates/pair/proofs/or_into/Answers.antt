@@ -1,17 +1,8 @@
--- `pair::or_into` meets its contract. The invariant: the first w words of the second register are written. Assumes nothing.
+-- `pair::or_into` meets its contract. Assumes nothing.
+use mathlib.Core.Bool.{◌||◌}
 use borrow.Author.Rules.{rules}
-use Rattle.column.proofs.Words.{or_words}
-use Rattle.pair.proofs.Pairs.{second, into_none, into_next, into_done}
+use Rattle.column.proofs.Words.{bit_or_by}
 use Rattle.pair.proofs.or_into.Goals as goal
 
-pub loop-w-init : goal.loop-w-init
-loop-w-init c = into_none second c.room_of-words.ensures
-
-pub loop-w-preserved : goal.loop-w-preserved
-loop-w-preserved c = into_next c.loop-w.invariant (search rules) (search rules) (search rules) (λ i. (c.slice_known-in-loop-w-2-1.given i).fits) or_words
-
-pub shape_of-s : goal.shape_of-s
-shape_of-s c = c.loop-w.invariant.swept.long
-
 pub returns : goal.returns
-returns c = into_done c.loop-w.invariant c.loop-w-test.false
+returns c = c.into_second.ensures ◌||◌ (λ x y z a b k i h. bit_or_by x y (search rules) i)

@@ -26,19 +26,19 @@ abbrev pub decreases-unary : goal.decreases-unary
 decreases-unary l = 8 * (length l.text.now - l.at) + 2
 
 abbrev pub invariant-conjunction-loop-at : goal.invariant-conjunction-loop-at
-invariant-conjunction-loop-at l = (length l.cells ≡ length l.initial.cells) × Conjs l.text l.depth l.at (tape l.initial.cells l.count) l.i (tape l.cells l.n)
+invariant-conjunction-loop-at l = Conjs l.text l.depth l.at (tape l.initial.cells l.count) l.i (tape l.cells l.n)
 
 abbrev pub decreases-conjunction-loop-at : goal.decreases-conjunction-loop-at
 decreases-conjunction-loop-at l = length l.text - l.i
 
-abbrev pub invariant-disjunction-loop-c : goal.invariant-disjunction-loop-c
-invariant-disjunction-loop-c l = (length l.cells ≡ length l.initial.cells) × Disjs l.text l.depth l.at (tape l.initial.cells l.count) l.i (tape l.cells l.n) l.some l.left
+abbrev pub invariant-disjunction-loop-more : goal.invariant-disjunction-loop-more
+invariant-disjunction-loop-more l = Disjs l.text l.depth l.at (tape l.initial.cells l.count) l.i (tape l.cells l.n) l.left
 
-abbrev pub decreases-disjunction-loop-c : goal.decreases-disjunction-loop-c
-decreases-disjunction-loop-c l = length l.text - l.i
+abbrev pub decreases-disjunction-loop-more : goal.decreases-disjunction-loop-more
+decreases-disjunction-loop-more l = length l.text - l.i
 
-abbrev pub invariant-prefixed-loop-ring : goal.invariant-prefixed-loop-ring
-invariant-prefixed-loop-ring l = (l.cells ≡ l.initial.cells) × Prefs l.text l.at l.i l.ring l.n
+abbrev pub invariant-prefixed-loop-item : goal.invariant-prefixed-loop-item
+invariant-prefixed-loop-item l = (l.cells ≡ l.initial.cells) × Prefs l.text l.at l.i l.ring l.n
 
-abbrev pub decreases-prefixed-loop-ring : goal.decreases-prefixed-loop-ring
-decreases-prefixed-loop-ring l = length l.text - l.i
+abbrev pub decreases-prefixed-loop-item : goal.decreases-prefixed-loop-item
+decreases-prefixed-loop-item l = length l.text - l.i

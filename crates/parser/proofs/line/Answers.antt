@@ -1,23 +1,25 @@
 -- What the callees ensure, put together. Assumes nothing.
 use borrow.Author.Rules.{rules}
-use Rattle.parser.proofs.Lines.{as_fault, line_past, line_name, line_formula, line_bad, line_end_lem}
+use mathlib.Core.Path.{refl, ◌∙◌}
+use Rattle.std.proofs.lemmas.Result.{err_from_is_err_and}
+use Rattle.parser.proofs.Leaves.{faulty}
+use Rattle.parser.proofs.Lines.{line_name, line_formula, line_bad, line_end_lem}
 use Rattle.parser.proofs.line.Goals as goal
 
-pub returns-then-text-at : goal.returns-then-text-at
-returns-then-text-at c = as_fault _ c.fault.ensures (line_past _ (search rules))
+pub returns-in_err-name : goal.returns-in_err-name
+returns-in_err-name c =
+    let p = err_from_is_err_and c.from_residual.result c.from_residual.ensures.1 in
+    rw (p.1, p.2) (line_name _ c.in_err-name.ensures (faulty c.in_err-name.field-0.0))
 
-pub returns-then-n-ne0 : goal.returns-then-n-ne0
-returns-then-n-ne0 c = as_fault _ c.fault-then-n-ne0.ensures (line_name _ c.bound-n.ensures c.if-n-ne0.true)
+pub returns-in_err-count : goal.returns-in_err-count
+returns-in_err-count c =
+    let p = err_from_is_err_and c.from_residual-in_err-count.result c.from_residual-in_err-count.ensures.1 in
+    rw (p.1, p.2) (line_formula _ c.in_ok-name.ensures refl c.in_err-count.ensures (faulty c.in_err-count.field-0.0) (c.formula.array_long ∙ (search rules)))
 
-pub returns-then-f-ne0 : goal.returns-then-f-ne0
-returns-then-f-ne0 c =
-    as_fault _ c.fault-then-f-ne0.ensures (line_formula _ c.bound-n.ensures c.if-n-ne0.false c.formula-f.ensures c.if-f-ne0.true c.formula-f.auto.cells)
-
-pub returns-then-e-ne0 : goal.returns-then-e-ne0
-returns-then-e-ne0 c =
-    as_fault _ c.fault-then-e-ne0.ensures
-    (line_bad _ c.bound-n.ensures c.if-n-ne0.false c.formula-f.ensures c.if-f-ne0.false c.expect-e.ensures c.if-e-ne0.true c.formula-f.auto.cells)
+pub returns-in_err-end : goal.returns-in_err-end
+returns-in_err-end c =
+    let p = err_from_is_err_and c.from_residual-in_err-end.result c.from_residual-in_err-end.ensures.1 in
+    rw (p.1, p.2) (line_bad _ c.in_ok-name.ensures refl c.in_ok-count.ensures refl c.in_err-end.ensures (faulty c.in_err-end.field-0.0) (c.formula.array_long ∙ (search rules)))
 
 pub returns : goal.returns
-returns c =
-    line_end_lem _ c.bound-n.ensures c.if-n-ne0.false c.formula-f.ensures c.if-f-ne0.false c.expect-e.ensures c.if-e-ne0.false c.formula-f.auto.cells
+returns c = line_end_lem _ c.in_ok-name.ensures refl c.in_ok-count.ensures refl c.in_ok-end.ensures refl (c.formula.array_long ∙ (search rules))

@@ -5,9 +5,9 @@ use Rattle.registers.proofs.note.Goals as goal
 pub returns-then-o-eq0 : goal.returns-then-o-eq0
 returns-then-o-eq0 c =
     let a = c.args in
-    noted_accepted a.b.now c.load-r.ensures c.store.ensures a.o c.if-o-eq0.true c.accepted_by.ensures
+    noted_accepted a.b.now c.load-r.ensures c.bytes.ensures a.o c.if-o-eq0.true c.accepted_by.ensures
 
-pub returns : goal.returns
-returns c =
+pub returns-else-o-eq0 : goal.returns-else-o-eq0
+returns-else-o-eq0 c =
     let a = c.args in
-    noted_refused a.b.now c.load-r.ensures c.store-2.ensures a.o c.if-o-eq0.false c.refused_by.ensures
+    noted_refused a.b.now c.load-r.ensures c.bytes-else-o-eq0.ensures a.o c.if-o-eq0.false c.refused_by.ensures

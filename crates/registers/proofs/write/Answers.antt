@@ -1,18 +1,19 @@
 -- A write to status, to enable, and to any other place. Assumes nothing.
+use borrow.Author.Rules.{rules}
 use Rattle.registers.proofs.Answers.{written_status, written_enable, written_other}
 use Rattle.registers.proofs.write.Goals as goal
 
-pub returns-then-place-eq0 : goal.returns-then-place-eq0
-returns-then-place-eq0 c =
+pub returns-in-0 : goal.returns-in-0
+returns-in-0 c =
     let a = c.args in
-    written_status a.b.now c.load-r.ensures c.store.ensures a.place a.value c.flags_from.ensures c.if-place-eq0.true c.cleared_by.ensures
+    written_status a.b.now c.load.ensures c.bytes.ensures a.place a.value c.from_byte.ensures c.in-0.is c.cleared_by.ensures
 
-pub returns-then-place-eq1 : goal.returns-then-place-eq1
-returns-then-place-eq1 c =
+pub returns-in-1 : goal.returns-in-1
+returns-in-1 c =
     let a = c.args in
-    written_enable a.b.now c.load-r-then-place-eq1.ensures c.store-then-place-eq1.ensures a.place a.value c.flags_from-then-place-eq1.ensures c.if-place-eq1.true c.enabled_by.ensures
+    written_enable a.b.now c.load-in-1.ensures c.bytes-in-1.ensures a.place a.value c.from_byte-in-1.ensures c.in-1.is c.enabled_by.ensures
 
-pub returns : goal.returns
-returns c =
+pub returns-in_default : goal.returns-in_default
+returns-in_default c =
     let a = c.args in
-    (c.place_number.ensures, written_other a.place a.value a.b.now c.if-place-eq0.false c.if-place-eq1.false)
+    (c.check_place.ensures, written_other a.place a.value a.b.now (search rules) (search rules))

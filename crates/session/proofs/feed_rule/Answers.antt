@@ -1,42 +1,46 @@
--- The number decides, and what it needs is there where it is 0. Assumes nothing.
-use Prim.Native.Nat.{ℕ}
-use mathlib.Core.Path.{◌≡◌, sym, ap, ◌∙◌}
-use mathlib.Core.Bool.{Bool, false}
+-- An unfit session is refused; the rows decide of any other. Assumes nothing.
+use mathlib.Core.Path.{◌≡◌, sym, ap}
+use mathlib.Core.Bool.{false}
+use borrow.Author.Rules.{rules}
 use lib.ListN.{length}
 use Rattle.limits.specs.Limits.{max_seen}
-use Rattle.lists.specs.Choice.{first}
-use Rattle.mltl.specs.Mltl.{delay}
-use Rattle.session.specs.declared.Session.{Session}
-use Rattle.session.specs.Session.{session_with, step_effect, unfit, feed_rows, feed_number_by}
-use Rattle.session.proofs.Answers.{unfit_is, delay_is, fit_is, FeedFits, feed_fits, fed_refused, fed_accepted}
+use Rattle.std.specs.Prelude.{Err}
+use Rattle.refusals.specs.declared.Refusal.TheVariants
+use Rattle.session.specs.Session.{session_with, step_effect, unfit}
+use Rattle.session.proofs.Answers.{unfit_told, fit_told, delay_is, fit_is, feed_fits, feed_number_is, fed_refused, fed_accepted}
 use Rattle.session.proofs.feed_rule.Goals as goal
 
-number : (s : Session) (k h x o : ℕ) {n : ℕ} {b : Bool} → n ≡ first (feed_rows max_seen b s.seen k h x o) → b ≡ unfit s → n ≡ feed_number_by delay max_seen s k h x o
-number s k h x o e u = e ∙ ap (λ (b : Bool). first (feed_rows max_seen b s.seen k h x o)) u
-
--- what the number 0 says
-fits : (s : Session) (k h x o : ℕ) {n : ℕ} → n ≡ feed_number_by delay max_seen s k h x o → n ≡ 0 → FeedFits max_seen (unfit s) s.seen k h x o
-fits s k h x o e z = feed_fits max_seen (unfit s) s.seen k h x o (sym e ∙ z)
-
-pub returns-then-number-ne0 : goal.returns-then-number-ne0
-returns-then-number-ne0 c =
+pub returns-in_default : goal.returns-in_default
+returns-in_default c =
     let a = c.args in
     let s = session_with a.t a.rule a.seen in
-    let e = number s (length a.block.now) (length a.history.now) (length a.scratch.now) (length a.out.now) c.feed_number-number.ensures (unfit_is false s c.delay-d.ensures) in
-    ap step_effect (fed_refused s a.block.now a.history.now a.scratch.now a.out.now e c.if-number-ne0.true)
+    ap step_effect
+    (fed_refused s a.block.now a.history.now a.scratch.now a.out.now TheVariants.Unsound (rw (unfit_told false s c.in_default.field-0 c.in_default.ensures)))
 
-pub advance-count-requires : goal.advance-count-requires
-advance-count-requires c =
+pub returns-in_err-check_feed : goal.returns-in_err-check_feed
+returns-in_err-check_feed c =
     let a = c.args in
     let s = session_with a.t a.rule a.seen in
-    let e = number s (length a.block.now) (length a.history.now) (length a.scratch.now) (length a.out.now) c.feed_number-number.ensures (unfit_is false s c.delay-d.ensures) in
-    let f = fits s (length a.block.now) (length a.history.now) (length a.scratch.now) (length a.out.now) e c.if-number-ne0.false in
-    record { fit = fit_is false s c.delay-d.ensures f.fit f.history f.scratch; few = f.few; seen = f.count; out_fits = f.out }
+    let e = c.in_err-check_feed.field-0.0 in
+    let r : c.from_residual.result ≡ Err e = search rules in
+    rw r
+    (ap step_effect
+    (fed_refused s a.block.now a.history.now a.scratch.now a.out.now e
+    (feed_number_is s a.block.now a.history.now a.scratch.now a.out.now (fit_told false s c.in-Ok.ensures) c.in_err-check_feed.ensures)))
+
+pub advance-requires : goal.advance-requires
+advance-requires c =
+    let a = c.args in
+    let s = session_with a.t a.rule a.seen in
+    let u = fit_told false s c.in-Ok.ensures in
+    let n = feed_number_is s a.block.now a.history.now a.scratch.now a.out.now u c.in_ok-check_feed.ensures in
+    let f = feed_fits max_seen (unfit s) s.seen (length a.block.now) (length a.history.now) (length a.scratch.now) (length a.out.now) (sym n) in
+    record { fit = fit_is false s c.in-Ok.ensures u f.history f.scratch; few = f.few; seen = f.count; out_fits = f.out }
 
 pub returns : goal.returns
 returns c =
     let a = c.args in
     let s = session_with a.t a.rule a.seen in
-    let e = number s (length a.block.now) (length a.history.now) (length a.scratch.now) (length a.out.now) c.feed_number-number.ensures (unfit_is false s c.delay-d.ensures) in
-    let f = fits s (length a.block.now) (length a.history.now) (length a.scratch.now) (length a.out.now) e c.if-number-ne0.false in
-    ap step_effect (fed_accepted s a.block.now a.history.now a.scratch.now a.out.now e c.if-number-ne0.false (delay_is false s c.delay-d.ensures f.fit) c.advance-count.ensures)
+    let u = fit_told false s c.in-Ok.ensures in
+    let n = feed_number_is s a.block.now a.history.now a.scratch.now a.out.now u c.in_ok-check_feed.ensures in
+    ap step_effect (fed_accepted s a.block.now a.history.now a.scratch.now a.out.now n (delay_is false s c.in-Ok.ensures u) c.advance.ensures)

@@ -17,14 +17,13 @@ pub slice_bounds-write_verdicts-end : goal.slice_bounds-write_verdicts-end
 slice_bounds-write_verdicts-end c =
     let f = c.requires.fit in
     let w : 4095 ≤ length c.args.history.now = f.history_fits in
-    let k : c.lesser-count.result ≤ length c.args.history.now = omega (arith, kept_short f c.lesser-count.ensures) in
+    let k : c.min-count.result ≤ length c.args.history.now = omega (arith, kept_short f c.min-count.ensures) in
     search rules
 
 pub write_verdicts-requires : goal.write_verdicts-requires
 write_verdicts-requires c =
-    close_writes c.requires c.lesser-count.ensures (lent_part c.lesser-count.result c.args.history.now) refl
+    close_writes c.requires c.min-count.ensures (lent_part c.min-count.result c.args.history.now) refl
 
 pub returns : goal.returns
 returns c =
-    rw c.with_seen-session.ensures
-    (close_is c.requires c.lesser-count.ensures (lent_part c.lesser-count.result c.args.history.now) refl c.write_verdicts.ensures)
+    close_is c.requires c.min-count.ensures (lent_part c.min-count.result c.args.history.now) refl c.write_verdicts.ensures

@@ -9,6 +9,7 @@ use Rattle.session.proofs.keep.Goals as goal
 pub returns : goal.returns
 returns c =
     let a = c.args in
-    kept_is a.history.now c.shift.new.s c.append.new.s a.block.now a.h (a.h + length a.block.now - a.left)
-    c.over-m.result c.over.result a.left
-    (omega arith) (omega arith) (omega arith) (omega arith) refl c.over-m.ensures c.over.ensures c.shift.ensures c.append.ensures
+    kept_is a.history.now c.shift.new.s _ c.copy_from_slice.new.self a.block.now a.h (a.h + length a.block.now - a.left)
+    c.saturating_sub-m.result c.saturating_sub.result a.left
+    (omega arith) (omega arith) (omega arith) refl c.saturating_sub-m.ensures c.saturating_sub.ensures c.shift.ensures
+    c.copy_from_slice.ensures.after refl

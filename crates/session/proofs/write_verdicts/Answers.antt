@@ -16,5 +16,5 @@ returns c =
     let f = holds (formula_at a.t.nodes a.place) (a.older.now ++ a.newer.now) in (
       w.0,
       zeros_behind (packed a.count f) a.out.now c.judge.new.out a.m (words a.count) (length_packed a.count f) c.requires.room c.requires.out_fits w.1
-          (a.m - words a.count) refl c.clear.ensures,
+          (a.m - words a.count) refl (c.fill.ensures.after (λ y e. e)),
     )

@@ -1,17 +1,8 @@
--- The session is what its bytes hold; the count is small. Assumes nothing.
-use Rattle.table.specs.Nodes.{wait_of}
-use Rattle.session.specs.declared.Session.{Session}
-use Rattle.session.specs.Session.{closing_by}
-use Rattle.shell.proofs.Laws.{called_by, count_within, close_count}
+-- The count is small. Assumes nothing.
+use Rattle.shell.proofs.Laws.{count_within, close_count}
 use Rattle.shell.proofs.close.Goals as goal
 
-pub put_answer-requires : goal.put_answer-requires
-put_answer-requires c =
+pub put_given-requires : goal.put_given-requires
+put_given-requires c =
     let a = c.args in
-    count_within 4095 c.close_under-r.ensures (close_count a.old c.read_session-s.result a.history.now a.scratch.now a.out.now)
-
-pub returns : goal.returns
-returns c =
-    let a = c.args in
-    called_by (λ (z : Session). closing_by (wait_of a.old) z a.history.now a.scratch.now a.out.now) c.close_under-r.ensures c.read_session-s.ensures
-    c.put_answer.ensures
+    let l = count_within 4095 c.in-Ok.ensures (close_count a.old c.read_session-s.result a.history.now a.scratch.now a.out.now) in l

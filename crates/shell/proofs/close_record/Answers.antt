@@ -1,22 +1,23 @@
--- The work with the table that the bytes hold; the count is small. Assumes nothing.
-use Prim.Native.Nat.{◌≤◌}
+-- The work on the list is what the call does to it; the count is small. Assumes nothing.
 use native.Mathlib.Omega.{arith}
-use Rattle.shell.proofs.Scheduler.{small_of, closed_in_lem}
-use Rattle.shell.proofs.close_record.Goals.{After-close-k}
+use Rattle.shell.proofs.Laws.{answers_number}
+use Rattle.shell.proofs.Scheduler.{small_of, stays, closed_called}
 use Rattle.shell.proofs.close_record.Goals as goal
 
-small : (c : After-close-k) → c.close-k.result.count ≤ 4095
-small c =
-    let a = c.args in
-    small_of c.read_table-t.result a.s a.place a.history.now a.scratch.now a.out.now c.close-k.ensures
-
 pub overflow_mul-result : goal.overflow_mul-result
-overflow_mul-result c = omega (arith, small (goal.at.overflow_mul-result c).After-close-k)
-
-pub overflow_add-result : goal.overflow_add-result
-overflow_add-result c = omega (arith, small (goal.at.overflow_add-result c).After-close-k)
-
-pub returns : goal.returns
-returns c =
+overflow_mul-result c =
     let a = c.args in
-    closed_in_lem a.s a.place a.history.now a.scratch.now a.out.now c.read_table-t.ensures c.close-k.ensures
+    let l = small_of c.read_table-t.result c.scan-s.result a.place a.history.now a.scratch.now a.out.now c.in-Ok.ensures in
+    omega arith
+
+pub returns-in-Ok : goal.returns-in-Ok
+returns-in-Ok c =
+    let a = c.args in
+    closed_called a.list.now c.scan-s.ensures c.read_table-t.ensures a.place a.history.now a.scratch.now a.out.now c.in-Ok.ensures
+    (omega arith) c.apply.ensures
+
+pub returns-in-Err : goal.returns-in-Err
+returns-in-Err c =
+    let a = c.args in
+    closed_called a.list.now c.scan-s.ensures c.read_table-t.ensures a.place a.history.now a.scratch.now a.out.now c.in-Err.ensures
+    (answers_number c.in-Err.e c.number.ensures) (stays a.list.now c.scan-s.ensures)

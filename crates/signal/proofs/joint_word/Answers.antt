@@ -12,4 +12,4 @@ returns-then-k-ge64 c =
 pub returns : goal.returns
 returns c =
     let a = c.args in
-    joint_parts a.i a.from a.older.now a.newer.now refl (search rules) (search rules) c.lesser.ensures c.part_word-low.ensures c.part_word-high.ensures
+    joint_parts a.i a.from a.older.now a.newer.now refl (search rules) (search rules) c.min.ensures c.part_word-low.ensures c.part_word-high.ensures

@@ -11,6 +11,6 @@ pub returns : goal.returns
 returns c =
     let a = c.args in
     let k : ℕ = c.filled_words-c.result in
-    let e : k ≡ min (a.words - a.at) ((length a.newer.now - c.over-from.result) / 64) = c.filled_words-c.ensures in
+    let e : k ≡ min (a.words - a.at) ((length a.newer.now - c.saturating_sub-from.result) / 64) = c.filled_words-c.ensures in
     let p : a.at ≡ min a.words (length a.older.now / 64 + 1) = search rules in
-    newer_swept a.i a.older.now a.newer.now c.over-from.ensures (λ h. omega arith) refl (omega arith) c.whole_words.ensures c.other_words.ensures
+    newer_swept a.i a.older.now a.newer.now c.saturating_sub-from.ensures (λ h. omega arith) refl (omega arith) c.whole_words.ensures c.other_words.ensures

@@ -11,5 +11,5 @@ returns c =
     let a = c.args in
     let k : ℕ = c.filled_words-a.result in
     let e : k ≡ min a.words ((length a.older.now - 0) / 64) = c.filled_words-a.ensures in
-    let n : c.lesser-b.result ≡ min a.words (k + 1) = c.lesser-b.ensures in
+    let n : c.min-b.result ≡ min a.words (k + 1) = c.min-b.ensures in
     (omega arith, older_swept a.i a.older.now a.newer.now (omega arith) (omega arith) c.whole_words.ensures c.other_words.ensures)

@@ -13,7 +13,7 @@ pub loop-w-preserved : goal.loop-w-preserved
 loop-w-preserved c =
     let l = c.loop-w in
     let a = c.args in
-    (swept_more l.invariant.0 (search rules) refl (word_from a.at l.w c.signal_word-x.ensures), search rules)
+    (swept_more l.invariant.0 (search rules) refl (word_from a.at l.w c.signal_word.ensures), search rules)
 
 pub shape_of-s : goal.shape_of-s
 shape_of-s c = c.loop-w.invariant.0.long

@@ -13,8 +13,8 @@ use Rattle.signal.proofs.pack_signal.Goals as goal
 pub returns-then-i-ge-SIGNALS : goal.returns-then-i-ge-SIGNALS
 returns-then-i-ge-SIGNALS c =
     let a = c.args in
-    let m : ℕ = c.lesser-words.result in
-    let e : m ≡ min 80 (length a.s.now) = c.lesser-words.ensures in
+    let m : ℕ = c.min-words.result in
+    let e : m ≡ min 80 (length a.s.now) = c.min-words.ensures in
     packed a.i _ (a.older.now ++ a.newer.now) a.s.now (omega arith)
     (laid_as (signal_column a.i (a.older.now ++ a.newer.now)) (omega arith)
     (λ t. le-ltb t 0 (omega arith) ∙ sym (no_signal a.i a.older.now a.newer.now c.if-i-ge-SIGNALS.true (λ j. (c.shared_slice_known-1.given j).fits) (λ j. (c.shared_slice_known-2-1.given j).fits) t))
@@ -23,7 +23,7 @@ returns-then-i-ge-SIGNALS c =
 pub returns : goal.returns
 returns c =
     let a = c.args in
-    let m : ℕ = c.lesser-words.result in
-    let e : m ≡ min 80 (length a.s.now) = c.lesser-words.ensures in
+    let m : ℕ = c.min-words.result in
+    let e : m ≡ min 80 (length a.s.now) = c.min-words.ensures in
     let b : c.older_words-at.result ≡ min m (length a.older.now / 64 + 1) = c.older_words-at.ensures.0 in
     packed_parts a.i (a.older.now ++ a.newer.now) a.s.now e (omega arith) (omega arith) c.older_words-at.ensures.1 c.newer_words.ensures

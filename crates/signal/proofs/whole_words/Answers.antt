@@ -16,7 +16,7 @@ pub loop-w-preserved : goal.loop-w-preserved
 loop-w-preserved c =
     let l = c.loop-w in
     let a = c.args in
-    (swept_more l.invariant.0 (search rules) refl (gathered_word _ _ c.whole_word-x.ensures (λ j h. ap (λ (t : ℕ). signal_column a.i a.states.now t) (omega arith))), search rules)
+    (swept_more l.invariant.0 (search rules) refl (gathered_word _ _ c.whole_word.ensures (λ j h. ap (λ (t : ℕ). signal_column a.i a.states.now t) (omega arith))), search rules)
 
 pub shape_of-s : goal.shape_of-s
 shape_of-s c = c.loop-w.invariant.0.long

@@ -33,9 +33,12 @@ is_inside l r = leb r.lo l.lo && leb l.hi r.hi
 abbrev pub law_not : Node → Outcome
 law_not l = pick (is 4 l) (At l.left) (pick (is 2 l) (Put (constant 3)) (pick (is 3 l) (Put (constant 2)) Stay))
 
--- F, and G: at [0,0], of the constant that it leaves as it is, and of its own kind
+-- F, and G: at [0,0], of the constant that it leaves as it is, and of its own kind, where both is one node for the two
+abbrev pub law_one_by : ℕ → Node → Node → Node → Outcome
+law_one_by fixed n l both = pick (eqb n.hi 0 || is fixed l) (At n.left) (pick (is n.kind l) (Put both) Stay)
+
 abbrev pub law_one : ℕ → Node → Node → Outcome
-law_one fixed n l = pick (eqb n.hi 0 || is fixed l) (At n.left) (pick (is n.kind l) (Put (merged n l)) Stay)
+law_one fixed n l = law_one_by fixed n l (merged n l)
 
 -- U, and R: at [0,0], and with the constant on the right that it leaves as it is
 abbrev pub law_two : ℕ → Node → Node → Outcome

@@ -12,6 +12,6 @@ use Rattle.table.proofs.delay_over.Goals as goal
 pub returns : goal.returns
 returns c =
     let a = c.args in
-    let l = c.all_delays-ds in
+    let l = c.measures in
     let k : length l.result ≤ 64 = search rules in
-    delay_capped false (delays a.t.nodes) a.n c.delay_from.ensures (take_all 64 l.result k ∙ l.ensures)
+    delay_capped false (delays a.t.nodes) a.n c.delay_among.ensures (take_all 64 l.result k ∙ l.ensures)

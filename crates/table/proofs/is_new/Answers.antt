@@ -1,16 +1,14 @@
--- A loop that tests each element at its place. Assumes nothing.
-use mathlib.Core.Path.{refl}
-use native.Mathlib.Omega.{arith}
-use borrow.Author.Rules.{rules}
-use Rattle.lists.proofs.Sequences.{length_mapped}
-use Rattle.lists.proofs.Loops.{tested_start, tested_more, tested_done}
+-- `all` asks the test of each element before the place. Assumes nothing.
+use Rattle.std.proofs.Common.{rules, tests, ◌∙◌, not, ◌==◌}
+use Rattle.std.proofs.lemmas.Iterator.{YieldsList-from_slice, YieldsList-from_take}
+use Rattle.std.proofs.lemmas.Iterator.Search.{all_from_yields_List}
+use Rattle.lists.proofs.Chains.{none_before}
+use Rattle.table.specs.declared.Rule.{Rule}
 use Rattle.table.proofs.is_new.Goals as goal
 
-pub loop-i-init : goal.loop-i-init
-loop-i-init c = tested_start _ _ _ (search (rules, length_mapped))
-
-pub loop-i-preserved : goal.loop-i-preserved
-loop-i-preserved c = let l = c.loop-i in tested_more _ _ _ l.ok l.i _ (omega arith) refl l.invariant
-
 pub returns : goal.returns
-returns c = let l = c.loop-i in tested_done _ _ _ l.ok l.i (omega arith) l.invariant
+returns c =
+    let a = c.args in
+    all_from_yields_List (λ (r : Rule). not (r.name == a.name)) _ _ _ c.all.ensures.ran
+    (YieldsList-from_take a.count (YieldsList-from_slice a.rules cc) cc) (λ x b q k. search (rules, tests))
+    ∙ none_before (λ (r : Rule). r.name == a.name) a.count a.rules

@@ -13,8 +13,8 @@ use Rattle.table.proofs.sound_with.Goals as goal
 pub returns : goal.returns
 returns c = λ wait e.
     let a = c.args in
-    let n : length a.t.nodes ≡ 64 = search (rules, length_mapped) in
-    let r : length a.t.rules ≡ 8 = search (rules, length_mapped) in
-    sound_by wait a.t n r c.nodes_ok.ensures
-    (c.all_short.ensures ∙ ap (every short 0) e ∙ short_capped 0 (measures wait a.t.nodes))
+    let n : length a.t.now.nodes ≡ 64 = search (rules, length_mapped) in
+    let r : length a.t.now.rules ≡ 8 = search (rules, length_mapped) in
+    sound_by wait a.t.now n r c.nodes_ok.ensures
+    (c.all_short.ensures ∙ ap (every short 0) e ∙ short_capped 0 (measures wait a.t.now.nodes))
     c.rules_ok.ensures

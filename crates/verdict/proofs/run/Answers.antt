@@ -1,50 +1,32 @@
 -- `verdict::run` meets its contract. The invariant: the columns of the first i nodes that are marked are there. Assumes nothing.
-use Prim.Native.Nat.{ℕ, ◌-◌, ◌<◌}
-use native.Mathlib.Nat.{le_antisymm}
+use Prim.Native.Nat.{◌-◌}
 use native.Mathlib.Omega.{arith}
 use mathlib.Core.List.{◌++◌}
-use mathlib.Core.Path.{refl, sym, subst, ◌∙◌}
-use borrow.Author.Rules.{rules}
+use mathlib.Core.Path.{refl, sym, ◌∙◌}
 use lib.ListN.{get_or, length-append}
-use Rattle.lists.proofs.Sequences.{length_mapped}
 use Rattle.table.specs.Nodes.{no_node}
-use Rattle.limits.specs.Limits.{scratch_words}
-use Rattle.layout.specs.Layout.{Computable}
-use Rattle.layout.proofs.Runs.{computable}
-use Rattle.verdict.proofs.Runs.{maybe_by, run_more, run_start}
+use Rattle.verdict.proofs.Runs.{run_more, run_past, step_by}
+use Rattle.verdict.proofs.run.Goals.{then-is_marked, else-is_marked}
 use Rattle.verdict.proofs.run.Goals as goal
-
-pub loop-i-init : goal.loop-i-init
-loop-i-init c = (run_start _ _ _ _, refl, search rules, search (rules, length_mapped), refl)
-
-pub step_if-requires : goal.step_if-requires
-step_if-requires c =
-    let l = c.loop-i in
-    let h = c.requires in
-    let a = c.args in
-    subst (λ (n : ℕ). Computable scratch_words l.i n (get_or a.t.nodes l.i no_node) l.s) (length-append a.older.now a.newer.now)
-    (computable h l.i c.loop-i-test.true l.invariant.1)
 
 pub loop-i-preserved : goal.loop-i-preserved
 loop-i-preserved c =
-    let st = c.step_if in
     let l = c.loop-i in
     let a = c.args in
     let h = c.requires in
     let i = l.invariant in
-    let less : l.i < a.upto = c.loop-i-test.true in
+    let less = c.loop-i-test.true in
     let p = h.places in
-    let q = h.enough in (
-      run_more (a.upto - 1) l.i (omega arith) (omega arith) (omega arith) (omega arith) st.auto.s h.short (h.fitting l.i less) h.needs i.0
-          (maybe_by (get_or a.t.nodes l.i no_node) (a.older.now ++ a.newer.now) c.is_marked.ensures (sym (length-append a.older.now a.newer.now)) st.ensures),
-      st.auto.s ∙ i.1,
-      omega arith,
-      i.3,
-      refl,
-    )
-
-pub shape_of-s : goal.shape_of-s
-shape_of-s c = c.loop-i.invariant.1
-
-pub returns : goal.returns
-returns c = rw (← le_antisymm c.loop-i.invariant.2 c.loop-i-test.false) c.loop-i.invariant.0
+    let q = h.enough in
+    elim c.if-is_marked.branch [
+      | then-is_marked w ↦ rw w.s-is (
+          let st = w.node_step in (
+            run_more (a.upto - 1) l.i (omega arith) (omega arith) (omega arith) (omega arith) st.auto.s h.short (h.fitting l.i less) h.needs i.0
+                (step_by (get_or a.t.nodes l.i no_node) (a.older.now ++ a.newer.now) (sym (length-append a.older.now a.newer.now)) st.ensures),
+            st.auto.s ∙ i.1,
+            omega arith,
+            i.3,
+            refl,
+          ))
+      | else-is_marked w ↦ rw w.s-is (run_past l.i (sym c.is_marked.ensures ∙ w.if-is_marked.false) i.0, i.1, omega arith, i.3, refl)
+    ]

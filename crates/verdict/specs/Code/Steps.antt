@@ -1,5 +1,5 @@
 -- What the functions that write the nodes' registers leave in the scratch.
-use Rattle.std.specs.Prelude.{◌≡◌, Bool, true, false, ◌||◌, ◌&&◌, List, ℕ, ◌+◌, ◌*◌, ◌≤◌, ◌<◌, length, get_or, drop}
+use Rattle.std.specs.Prelude.{◌≡◌, Bool, true, ◌||◌, ◌&&◌, List, ℕ, ◌+◌, ◌*◌, ◌≤◌, ◌<◌, length, get_or, drop}
 use Rattle.limits.specs.Limits.{max_nodes, max_trace, register_words, scratch_words}
 use Rattle.lists.specs.Bits.{words, bit_at, packed, below}
 use Rattle.mltl.specs.Mltl.{holds, eventually, opposite}
@@ -11,14 +11,8 @@ use Rattle.table.specs.Sound.{fits}
 use Rattle.table.specs.declared.Node.{Node}
 use Rattle.windows.specs.Windows.{until_of, release_of}
 use Rattle.needed.specs.Marks.{marked}
-use Rattle.layout.specs.Layout.{Step}
 
 -- ---- what stands in them
--- a step where `on`, and nothing where not
-pub record Maybe (on : Bool) (b m : ℕ) (f : ℕ → Bool) (xs ys : List ℕ) : Type 0 where
-  pub step : on ≡ true → Step b m f xs ys
-  pub stay : on ≡ false → ys ≡ xs
-
 -- the column of a node by its kind, its operands' registers c and d, and the n states
 abbrev pub node_column : Op → Node → ℕ → List ℕ → List ℕ → List ℕ → ℕ → Bool
 node_column Unknown x n states c d = filled 0

@@ -1,10 +1,9 @@
--- The next step may begin. The measure counts the reads that are left, in rounds.
-use Rattle.std.proofs.Common.{◌≡◌, ◌-◌, ◌*◌, ◌<◌, length}
+-- The next step may begin.
 use Rattle.watch.specs.Steps.{Ready}
 use Rattle.watch.proofs.run.Given as goal
 
-abbrev pub invariant-loop-rounds : goal.invariant-loop-rounds
-invariant-loop-rounds g l = Ready l.p × (length l.block ≡ 1024) × (65536 ≡ length l.buf) × (l.reads < 18446744073709551615)
+abbrev pub invariant-loop : goal.invariant-loop
+invariant-loop g l = Ready l.p
 
-abbrev pub decreases-loop-rounds : goal.decreases-loop-rounds
-decreases-loop-rounds g l = 18446744073709551615 * l.rounds - l.reads
+abbrev pub invariant-loop-2 : goal.invariant-loop-2
+invariant-loop-2 g l = Ready l.p

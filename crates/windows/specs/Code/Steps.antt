@@ -2,22 +2,12 @@
 use Rattle.std.specs.Prelude.{◌≡◌, Bool, List, map, ℕ, ◌-◌, ◌*◌, ◌^◌, take}
 use Rattle.lists.specs.Bits.{bit_at}
 use Rattle.lists.specs.Sequence.{sum}
-use Rattle.mltl.specs.Mltl.{eventually}
-use Rattle.mltl.specs.Known.{whole}
-use Rattle.column.specs.Column.{register, lay, Turned}
-use Rattle.windows.specs.Windows.{span, third, used}
+use Rattle.column.specs.Column.{register, lay}
+use Rattle.windows.specs.Windows.{third, used}
 
 -- the width of the windows of the first `count` parts k
 abbrev pub width_of : ℕ → List ℕ → ℕ
 width_of count ks = sum (map (λ k. 2 ^ k - 1) (take count ks))
-
--- the whole list holds F's column
-abbrev pub Eventually : ℕ → ℕ → List ℕ → List ℕ → Type 0
-Eventually lo hi xs ys = Turned (eventually (span xs) lo hi (bit_at xs)) xs ys
-
--- the whole list holds the column of all bits of an interval
-abbrev pub Whole : ℕ → ℕ → List ℕ → List ℕ → Type 0
-Whole lo hi xs ys = Turned (whole lo hi (bit_at xs)) xs ys
 
 -- two registers of m words, at 0 and d, hold f and g, and all else is as it was
 pub record Two (d m : ℕ) (f g : ℕ → Bool) (xs ys : List ℕ) : Type 0 where

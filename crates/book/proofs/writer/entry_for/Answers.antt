@@ -10,7 +10,7 @@ use Rattle.book.proofs.writer.entry_for.Goals as goal
 pub returns-then-k-eq0 : goal.returns-then-k-eq0
 returns-then-k-eq0 c =
     let a = c.args in
-    c.plain_entry.ensures ∙ ap head_entry c.either-next.ensures ∙ sym (head_for a.t a.k (omega arith))
+    c.plain_entry.ensures ∙ ap head_entry c.link_after-next.ensures ∙ sym (head_for a.t a.k (omega arith))
 
 pub node_entry-requires : goal.node_entry-requires
 node_entry-requires c =
@@ -19,7 +19,7 @@ node_entry-requires c =
 pub returns-then-k-t : goal.returns-then-k-t
 returns-then-k-t c =
     let a = c.args in
-    c.node_entry.ensures ∙ ap (node_entry (node_at a.t (a.k - 1))) c.either-next.ensures ∙ sym (node_for a.t a.k (omega arith) (omega arith))
+    c.node_entry.ensures ∙ ap (node_entry (node_at a.t (a.k - 1))) c.link_after-next.ensures ∙ sym (node_for a.t a.k (omega arith) (omega arith))
 
 pub rule_entry-requires : goal.rule_entry-requires
 rule_entry-requires c =
@@ -28,5 +28,5 @@ rule_entry-requires c =
 pub returns : goal.returns
 returns c =
     let a = c.args in
-    c.rule_entry.ensures ∙ ap (rule_entry (rule_at a.t (a.k - 1 - a.t.node_count))) c.either-next.ensures
+    c.rule_entry.ensures ∙ ap (rule_entry (rule_at a.t (a.k - 1 - a.t.node_count))) c.link_after-next.ensures
     ∙ sym (rule_for a.t a.k (omega arith))

@@ -1,16 +1,12 @@
--- A loop that tests each element at its place. Assumes nothing.
-use mathlib.Core.Path.{refl}
-use native.Mathlib.Omega.{arith}
-use borrow.Author.Rules.{rules}
-use Rattle.lists.proofs.Sequences.{length_mapped}
-use Rattle.lists.proofs.Loops.{tested_start, tested_more, tested_done}
+-- `all` asks the test of each element. Assumes nothing.
+use Rattle.std.proofs.Common.{rules, tests, ◌∙◌, ltb}
+use Rattle.std.proofs.lemmas.Iterator.{YieldsList-from_slice}
+use Rattle.std.proofs.lemmas.Iterator.Search.{all_from_yields_List}
+use Rattle.lists.proofs.Chains.{every_all}
 use Rattle.table.proofs.chain.all_short.Goals as goal
 
-pub loop-i-init : goal.loop-i-init
-loop-i-init c = tested_start _ _ _ (search (rules, length_mapped))
-
-pub loop-i-preserved : goal.loop-i-preserved
-loop-i-preserved c = let l = c.loop-i in tested_more _ _ _ l.ok l.i _ (omega arith) refl l.invariant
-
 pub returns : goal.returns
-returns c = let l = c.loop-i in tested_done _ _ _ l.ok l.i (omega arith) l.invariant
+returns c =
+    let ms = c.args.ms.now in
+    all_from_yields_List (λ m. ltb m 4096) _ _ _ c.all.ensures.ran (YieldsList-from_slice ms cc) (λ x b q k. search (rules, tests))
+    ∙ every_all (λ m. ltb m 4096) 0 ms

@@ -1,5 +1,0 @@
--- Each test, and the rows from the last to the first. Assumes nothing.
-use Rattle.builder.proofs.rule_number.Goals as goal
-
-pub returns : goal.returns
-returns c = cc

@@ -1,0 +1,20 @@
+-- What is noted has the number and the verdicts. Assumes nothing.
+use mathlib.Core.Path.{ap, ◌∙◌}
+use Rattle.refusals.specs.Refusals.{number_of}
+use Rattle.table.specs.Nodes.{wait_of}
+use Rattle.registers.specs.declared.Outcome.{Outcome}
+use Rattle.registers.specs.Registers.{after_call}
+use Rattle.noted.specs.Noted.{given}
+use Rattle.noted.proofs.Outcomes.{without}
+use Rattle.noted.proofs.note_given.Goals.{in-Ok, in-Err}
+use Rattle.noted.proofs.note_given.Goals as goal
+
+pub returns : goal.returns
+returns c =
+    let a = c.args in
+    c.note.ensures
+    ∙ ap (λ (o : Outcome). after_call o a.registers.now)
+    (c.of.ensures ∙ elim c.match-r.branch [
+      | in-Ok w ↦ rw (w.came-is, w.in-Ok.is) (w.verdicts_of.ensures a.kind)
+      | in-Err w ↦ rw (w.came-is, w.in-Err.is) (without a.kind (number_of w.in-Err.e) (given (wait_of a.old) a.s))
+    ])

@@ -1,5 +1,0 @@
--- A row more. Assumes nothing.
-use Rattle.reach.proofs.reach_number.Goals as goal
-
-pub returns : goal.returns
-returns c = cc

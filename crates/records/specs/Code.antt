@@ -1,2 +1,0 @@
--- the steps of the pass over a list
-pub mod Steps

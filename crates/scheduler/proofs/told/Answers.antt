@@ -1,5 +1,0 @@
--- The callees' answers put together. Assumes nothing.
-use Rattle.scheduler.proofs.told.Goals as goal
-
-pub returns : goal.returns
-returns c = cc
