@@ -35,7 +35,7 @@ pub extern "C" fn juntreak_check_book(book: &[u8]) -> u32
     ensures { result ≡ code_of (reading book.now) }
 {
     if let Err(f) = book::read(book) {
-        return shell::book_code(f);
+        return shell::book_code(f.refusal, f.record);
     }
     0
 }
@@ -50,7 +50,7 @@ pub extern "C" fn juntreak_read(book: &[u8], table: &mut [u8; TABLE_BYTES]) -> u
             flat::write_table(t, table);
             0
         }
-        Err(f) => shell::book_code(f),
+        Err(f) => shell::book_code(f.refusal, f.record),
     }
 }
 
@@ -64,7 +64,7 @@ pub extern "C" fn juntreak_read_text(text: &[u8], table: &mut [u8; TABLE_BYTES])
             flat::write_table(t, table);
             0
         }
-        Err(f) => shell::text_code(f),
+        Err(f) => shell::text_code(f.refusal, f.place),
     }
 }
 

@@ -31,7 +31,7 @@ module _ (text : List ℕ) where
       ap (λ (l : List ℕ). fate tapes 32 c i l) (whole i h)
       ∙ ap (λ (n : Next Tape ℕ). follow tapes n (λ (k : Config Tape ℕ). fate tapes 32 k (i + 1) (drop (i + 1) text)) i (drop (i + 1) text)) s
 
-  from_end : (c : Config Tape ℕ) (i : ℕ) → length text ≤ i → from text c i ≡ Fault 32 i
+  pub from_end : (c : Config Tape ℕ) (i : ℕ) → length text ≤ i → from text c i ≡ Fault 32 i
   unfolding fate
   from_end c i h = ap (λ (l : List ℕ). fate tapes 32 c i l) (drop_of_length-le text h)
 

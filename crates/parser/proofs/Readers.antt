@@ -14,7 +14,8 @@ use Rattle.grammar.proofs.Steps.{start_not, start_signal, start_open, start_deep
 use Rattle.std.proofs.Common.{Option as Maybe, Some, None}
 use Rattle.grammar.specs.Tape.{Tape, tape, tapes, emitted}
 use Rattle.parser.specs.Reads.{from, told, byte_at}
-use Rattle.parser.specs.Code.{Skipped, Expected, Spanned, NoPrefix, extended, Windowed, Prefixes, Between, until, release, neither, held_in, last_prefixes, left_of, SignalRead, ConstantRead, AtomRead, UnaryRead, ConjRead, DisjRead, FormulaRead}
+use Rattle.parser.specs.declared.tape.Prefix.{Prefix}
+use Rattle.parser.specs.Code.{prefix_item, Skipped, Expected, Spanned, NoPrefix, extended, Windowed, Prefixes, Between, until, release, neither, held_in, last_prefixes, left_of, SignalRead, ConstantRead, AtomRead, UnaryRead, ConjRead, DisjRead, FormulaRead}
 use Rattle.parser.proofs.Laws.{from_stop, from_bad, from_like, from_spaces}
 use Rattle.parser.proofs.Leaves.{told_not, told_ok, told_by, on_byte}
 use Rattle.parser.proofs.Ring.{Holds, holds_more, holds_applied}
@@ -157,7 +158,7 @@ module _ (text : List ℕ) where
       puts_done p st = refl
 
   -- the prefixes from the place i on up to j, which the ring holds
-  pub record Prefs (i j : ℕ) (ring : List Item) (n : ℕ) : Type 0 where
+  pub record Prefs (i j : ℕ) (ring : List Prefix) (n : ℕ) : Type 0 where
     pub later : i ≤ j
     pub inside : j ≤ max i (length text)
     pub few : n ≤ j - i
@@ -165,19 +166,19 @@ module _ (text : List ℕ) where
     pub holds : Holds ring n read
     pub same : (p : Awaited ℕ) (st : Stack ℕ) (β : Tape) → from text (cf AwaitUnary p [] st β) i ≡ from text (cf AwaitUnary p read st β) j
 
-  pub prefs_more : {i j n k m : ℕ} {more : Bool} {it : Item} {ring ring' : List Item} → Prefs i j ring m → Prefixes text j n k more it → n ≡ 0 → more ≡ true
-      → ring' ≡ held_in ring m it → Prefs i k ring' (m + 1)
-  prefs_more {i} {j} {n} {k} {m} {more} {it} {ring} {ring'} f x z w e =
+  pub prefs_more : {i j n k m : ℕ} {more : Bool} (q : Prefix) {ring ring' : List Prefix} → Prefs i j ring m → Prefixes text j n k more (prefix_item q) → n ≡ 0
+      → more ≡ true → ring' ≡ held_in ring m q → Prefs i k ring' (m + 1)
+  prefs_more {i} {j} {n} {k} {m} {more} q {ring} {ring'} f x z w e =
       record {
         later = omega arith;
         inside = omega arith;
         few = let a = f.later in let b = x.further z w in let c = f.few in omega arith;
-        read = it ∷ f.read;
-        holds = rw e (holds_more ring m f.read it f.holds);
-        same = λ p st β. f.same p st β ∙ x.same p f.read st β ∙ told_ok n k _ z ∙ stretch p f.read st β k it more w;
+        read = prefix_item q ∷ f.read;
+        holds = rw e (holds_more ring m f.read q f.holds);
+        same = λ p st β. f.same p st β ∙ x.same p f.read st β ∙ told_ok n k _ z ∙ stretch p f.read st β k (prefix_item q) more w;
       }
 
-  pub prefixed_atom : {i j d n k m l o : ℕ} {more : Bool} {it : Item} {ring : List Item} {α γ β : Tape} → Prefs i j ring o → Prefixes text j n k more it → n ≡ 0 → more ≡ false
+  pub prefixed_atom : {i j d n k m l o : ℕ} {more : Bool} {it : Item} {ring : List Prefix} {α γ β : Tape} → Prefs i j ring o → Prefixes text j n k more it → n ≡ 0 → more ≡ false
       → AtomRead text k d α m l γ → β ≡ puts tapes γ (last_prefixes ring o) → UnaryRead text i d α m l β
   prefixed_atom {i} {j} {d} {n} {k} {m} {l} {o} {more} {it} {ring} {α} {γ} {β} f x z w a e =
       record {

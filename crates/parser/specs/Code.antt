@@ -11,6 +11,7 @@ use Rattle.grammar.specs.declared.Item.{Item}
 use Rattle.grammar.specs.Tape.{kept_nodes, Tape, tapes}
 use Rattle.grammar.specs.Machine.{item, plain_item, const_item, Purpose, Name, Sig, Lo, Hi, Goal, ToFormula, ToLo, ToHi, ToOp, wanted, Awaited, First, Stack, bottom, push, depth, AwaitNumber, InNumber, AwaitByte, AwaitUnary, ChainRead, AllRead, cf, spaced, number_read, spelt, unary_done, atom_done, go, Finished}
 use Rattle.parser.specs.declared.faults.Fault.{Fault}
+use Rattle.parser.specs.declared.tape.Prefix.{Prefix}
 use Rattle.parser.specs.Reads.{from, told, byte_at}
 
 -- ---- what a reader answers: the place behind what it read, or that of its fault; and what it read, which is nothing at a fault
@@ -34,12 +35,19 @@ abbrev pub hi_of : Result ((ℕ × ℕ) × ℕ) Fault → ℕ
 hi_of (Ok r) = r.0.1
 hi_of (Err f) = 0
 
-abbrev pub more_of : Result (Maybe Item × ℕ) Fault → Bool
+-- a prefix as the item that it is
+abbrev pub prefix_item : Prefix → Item
+prefix_item p = item (p.kind % 256) 0 p.lo p.hi
+
+abbrev pub no_prefix : Prefix
+no_prefix = record { kind = 0; lo = 0; hi = 0 }
+
+abbrev pub more_of : Result (Maybe Prefix × ℕ) Fault → Bool
 more_of (Ok r) = is_some r.0
 more_of (Err f) = false
 
-abbrev pub item_of : Result (Maybe Item × ℕ) Fault → Item
-item_of (Ok r) = unwrap_or r.0 (plain_item 0)
+abbrev pub item_of : Result (Maybe Prefix × ℕ) Fault → Item
+item_of (Ok r) = prefix_item (unwrap_or r.0 no_prefix)
 item_of (Err f) = plain_item 0
 
 -- the left operand of an or, if there is one
@@ -149,14 +157,14 @@ pub data Between (text : List ℕ) (i : ℕ) : Maybe ℕ → Type 0 where
 abbrev pub slot : ℕ → ℕ
 slot n = n % kept_nodes
 
-abbrev pub held_in : List Item → ℕ → Item → List Item
-held_in ring n it = set ring (slot n) it
+abbrev pub held_in : List Prefix → ℕ → Prefix → List Prefix
+held_in ring n p = set ring (slot n) p
 
-abbrev pub prefix_at : List Item → ℕ → Item
-prefix_at ring n = get_or ring (slot n) (plain_item 0)
+abbrev pub prefix_at : List Prefix → ℕ → Item
+prefix_at ring n = prefix_item (get_or ring (slot n) no_prefix)
 
 -- of n prefixes that were held, the last one first
-abbrev pub last_prefixes : List Item → ℕ → List Item
+abbrev pub last_prefixes : List Prefix → ℕ → List Item
 last_prefixes ring n = ticks (λ (k : ℕ). prefix_at ring (n - 1 - k)) (min n kept_nodes)
 
 -- ---- atoms without brackets, whose first byte is read; the tape goes from α to β

@@ -111,7 +111,8 @@ fn unary(
     atom(text, cells, i, depth, count)
 }
 
-// A unary with prefixes: a function of its own, since only these need a ring.
+// A unary with prefixes: a function of its own, since only these need a ring. Inlined, it would put one on the stack for every bracket.
+#[inline(never)]
 #[cycle(atom_conjunction_disjunction_formula_prefixed_unary)]
 fn prefixed(
     text: &[u8],
@@ -122,18 +123,18 @@ fn prefixed(
 ) -> Result<(u32, usize), Fault>
     ensures { UnaryRead text.now at depth (tape cells.old count) (number_of result) (place_of result) (tape cells.new (value_of result)) }
 {
-    let mut ring = [Item::new(0, 0, 0, 0); tape::KEPT_NODES];
+    let mut ring = [tape::NO_PREFIX; tape::KEPT_NODES];
     let mut n: usize = 0;
     let mut i = at;
     // A reader goes on where the one before it stopped.
     loop {
         let (item, next) = tokens::prefix(text, i)?;
-        let Some(it) = item else {
+        let Some(p) = item else {
             let (more, end) = atom(text, cells, next, depth, count)?;
             let all = tape::apply(&ring, cells, n, more);
             return Ok((all, end));
         };
-        tape::hold(&mut ring, n, it);
+        tape::hold(&mut ring, n, p);
         n += 1;
         i = next;
     }

@@ -2,7 +2,8 @@
 ghost use Rattle.std.specs.Prelude.{◌≡◌, ◌-◌};
 ghost use Rattle.grammar.specs.Machine.{orred, puts};
 ghost use Rattle.grammar.specs.Tape.{tape, tapes, emitted};
-ghost use Rattle.parser.specs.Code.{held_in, last_prefixes, left_of};
+ghost use Rattle.table.specs.Operators.{kind_of};
+ghost use Rattle.parser.specs.Code.{prefix_item, held_in, last_prefixes, left_of};
 
 use crate::TAPE_WORDS;
 use grammar::Item;
@@ -54,16 +55,51 @@ pub(crate) fn or_if(cells: &mut [u32; TAPE_WORDS], count: u32, left: Option<u32>
 
 // ---- the prefixes of a unary: the last 65, in a ring
 
+// A prefix: its operator's kind, and the bounds of F or G. It has no room for the field of an item that no prefix uses, since for each open bracket
+// a ring may lie on the stack, and no gap, so that a ring is cleared at once.
+#[derive(Clone, Copy)]
+pub(crate) struct Prefix {
+    pub kind: u32,
+    pub lo: u32,
+    pub hi: u32,
+}
+
+impl Prefix {
+    pub(crate) fn new(o: Operator, lo: u32, hi: u32) -> Prefix
+        ensures { result ≡ record { kind = kind_of o; lo = lo; hi = hi } }
+    {
+        Prefix {
+            kind: u32::from(o.kind()),
+            lo,
+            hi,
+        }
+    }
+
+    // The item that it is.
+    fn item(self) -> Item
+        ensures { result ≡ prefix_item self }
+    {
+        Item::new((self.kind % 256) as u8, 0, self.lo, self.hi)
+    }
+}
+
+// What a ring holds where no prefix was held yet.
+pub(crate) const NO_PREFIX: Prefix = Prefix {
+    kind: 0,
+    lo: 0,
+    hi: 0,
+};
+
 // One prefix more, the nth from 0.
-pub(crate) fn hold(ring: &mut [Item; KEPT_NODES], n: usize, it: Item)
-    ensures { ring.new ≡ held_in ring.old n it }
+pub(crate) fn hold(ring: &mut [Prefix; KEPT_NODES], n: usize, p: Prefix)
+    ensures { ring.new ≡ held_in ring.old n p }
 {
-    ring[n % KEPT_NODES] = it;
+    ring[n % KEPT_NODES] = p;
 }
 
 // The last 65 of n prefixes, put on the tape, the last one first.
 pub(crate) fn apply(
-    ring: &[Item; KEPT_NODES],
+    ring: &[Prefix; KEPT_NODES],
     cells: &mut [u32; TAPE_WORDS],
     n: usize,
     count: u32,
@@ -72,7 +108,7 @@ pub(crate) fn apply(
 {
     let mut c = count;
     for k in (n.saturating_sub(KEPT_NODES)..n).rev() {
-        c = put(cells, c, ring[k % KEPT_NODES]);
+        c = put(cells, c, ring[k % KEPT_NODES].item());
     }
     c
 }

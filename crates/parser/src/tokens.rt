@@ -9,7 +9,7 @@ ghost use Rattle.parser.specs.Reads.{number_of};
 ghost use Rattle.parser.specs.Code.{IsAt, DigitAt, Skipped, Grown, Numbered, Expected, Bounded, Spanned, Spelt, Windowed, Prefixes, Between, place_of, end_of, value_of, lo_of, hi_of, more_of, item_of};
 
 use crate::Fault;
-use grammar::Item;
+use crate::tape::Prefix;
 use table::Operator;
 
 // The byte at a place is x.
@@ -119,20 +119,20 @@ pub(crate) fn spell(text: &[u8], at: usize, w: &[u8]) -> Result<usize, Fault>
 }
 
 // F or G, whose letter is read, as a prefix.
-fn window(text: &[u8], at: usize, o: Operator) -> Result<(Option<Item>, usize), Fault>
+fn window(text: &[u8], at: usize, o: Operator) -> Result<(Option<Prefix>, usize), Fault>
     ensures { Windowed text.now at (kind_of o) (number_of result) (place_of result) (more_of result) (item_of result) }
 {
     let ((lo, hi), end) = interval(text, at)?;
-    Ok((Some(Item::new(o.kind(), 0, lo, hi)), end))
+    Ok((Some(Prefix::new(o, lo, hi)), end))
 }
 
 // A prefix of a unary, if there is one.
-pub(crate) fn prefix(text: &[u8], at: usize) -> Result<(Option<Item>, usize), Fault>
+pub(crate) fn prefix(text: &[u8], at: usize) -> Result<(Option<Prefix>, usize), Fault>
     ensures { Prefixes text.now at (number_of result) (place_of result) (more_of result) (item_of result) }
 {
     let i = skip(text, at);
     if is_at(text, i, b'!') {
-        return Ok((Some(Item::new(Operator::Not.kind(), 0, 0, 0)), i + 1));
+        return Ok((Some(Prefix::new(Operator::Not, 0, 0)), i + 1));
     }
     if is_at(text, i, b'F') {
         return window(text, i + 1, Operator::Finally);

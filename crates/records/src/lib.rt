@@ -59,14 +59,16 @@ pub fn set_waiting(list: &mut [Record], i: usize, v: usize)
     }
 }
 
-// One pass over the list; the first eight records are copied.
+// One pass over the list: the first eight records are copied, and looked at in their copies.
 pub fn scan(list: &[Record]) -> Summary
     ensures { result ≡ summary_of list.now }
 {
     let kept = list.len().min(MAX_LIST);
+    let (first, rest) = list.split_at(kept);
     let mut records = [Record::default(); MAX_LIST];
-    records[..kept].copy_from_slice(&list[..kept]);
-    let (highest, longest) = list.iter().fold((0, 0), |(rule, waiting), r| {
+    records[..kept].copy_from_slice(first);
+    let all = records[..kept].iter().chain(rest.iter());
+    let (highest, longest) = all.fold((0, 0), |(rule, waiting), r| {
         (rule.max(r.rule), waiting.max(r.waiting))
     });
     Summary {

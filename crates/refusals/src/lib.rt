@@ -2,7 +2,7 @@
 // definitions, in specs/Numbers.
 #![tactic(auto)]
 
-ghost use Rattle.std.specs.Prelude.{◌≡◌};
+ghost use Rattle.std.specs.Prelude.{ℕ, ◌≡◌};
 ghost use Rattle.refusals.specs.Refusals.{number_of};
 
 // Why a call is refused.
@@ -46,5 +46,30 @@ impl Refusal {
         ensures { result ≡ number_of self }
     {
         self as u8
+    }
+}
+
+// What a refused call is told by: a refusal, or a number alone, which may be any.
+pub trait Reason: Copy {
+    ghost told: { Self → ℕ };
+
+    // The number that a caller in C is told.
+    fn told(self) -> u8
+        ensures { result ≡ told self };
+}
+
+impl Reason for Refusal {
+    ghost told = { number_of };
+
+    fn told(self) -> u8 {
+        self.number()
+    }
+}
+
+impl Reason for u8 {
+    ghost told = { λ n. n };
+
+    fn told(self) -> u8 {
+        self // as it is
     }
 }

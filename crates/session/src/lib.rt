@@ -1,7 +1,7 @@
 // Sessions: states come in blocks, and verdicts are given as soon as they are settled.
 #![tactic(auto)]
 
-ghost use Rattle.std.specs.Prelude.{false, ◌≡◌, ◌++◌, ◌+◌, ◌-◌, ◌≤◌, length, take, drop};
+ghost use Rattle.std.specs.Prelude.{false, ◌≡◌, ◌++◌, ◌+◌, ◌-◌, ◌≤◌, min, length, take, drop};
 ghost use Rattle.limits.specs.Limits.{max_block, max_seen};
 ghost use Rattle.refusals.specs.Refusals.{number};
 ghost use Rattle.lists.specs.Choice.{first};
@@ -215,6 +215,20 @@ pub fn feed_rule(
     ))
 }
 
+// How many states history holds, of so many that were seen; d is the delay.
+fn held(seen: usize, d: usize) -> usize
+    ensures { result ≡ min seen d }
+{
+    seen.min(d)
+}
+
+// How many ticks are settled by so many states; d is the delay.
+fn settled(seen: usize, d: usize) -> usize
+    ensures { result ≡ seen - d }
+{
+    seen.saturating_sub(d)
+}
+
 // A feed that is accepted: the count of verdicts; d is the delay.
 fn advance(
     t: Table,
@@ -231,8 +245,8 @@ fn advance(
 {
     let place = t.rules[rule].watched as usize;
     let after = seen + block.len();
-    let h = seen.min(d);
-    let count = after.saturating_sub(d) - seen.saturating_sub(d);
+    let h = held(seen, d);
+    let count = settled(after, d) - settled(seen, d);
     write_verdicts(
         t,
         place,
@@ -243,7 +257,7 @@ fn advance(
         scratch,
         out,
     );
-    keep(history, h, block, after.min(d));
+    keep(history, h, block, held(after, d));
     count
 }
 
@@ -255,7 +269,7 @@ fn finish(s: Session, d: usize, history: &[u32], scratch: &mut [u64], out: &mut 
     let t = s.table;
     let rule = s.rule;
     let place = t.rules[rule].watched as usize;
-    let count = (s.seen as usize).min(d);
+    let count = held(s.seen as usize, d);
     write_verdicts(
         t,
         place,

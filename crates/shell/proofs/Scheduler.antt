@@ -13,14 +13,17 @@ use Rattle.table.specs.declared.Table.{Table}
 use Rattle.session.specs.Session.{Step, Answer}
 use Rattle.records.specs.declared.Record.{Record}
 use Rattle.records.specs.declared.Summary.{Summary}
+use Rattle.records.specs.declared.Change.{Change}
 use Rattle.records.specs.Records.{record_at, applied}
 use Rattle.records.specs.Reading.{summary_of}
 use Rattle.scheduler.specs.Scheduler.{part_of, session_of, block_of, turn_rows, close_rows}
-use Rattle.scheduler.specs.Work.{next_place, misfits, told_of, unchanged, Leaving, Turning, Closing, Stored, Serving, not_served, fed_in, served_by, serve_work, idle_work, Ending, closed_in, closed_by, finish_work, leave_work, turn_work, close_work, Told}
+use Rattle.scheduler.specs.Work.{next_place, misfits, told_of, Leaving, Turning, Closing, Stored, Serving, not_served, fed_in, served_by, serve_work, idle_work, Ending, closed_in, closed_by, finish_work, leave_work, turn_work, close_work, Told}
 use Rattle.scheduler.proofs.Fits.{turn_fits}
 use Rattle.scheduler.specs.Scheduler.{leave_effect, turn_effect, close_effect}
-use Rattle.scheduler.proofs.Whole.{unchanged_is, whole_left, whole_turned, whole_closed}
-use Rattle.shell.specs.Scheduler.{turn_answer, close_answer, LeaveCall, leave_call, TurnCall, turn_call, CloseCall, close_call}
+use Rattle.scheduler.proofs.Whole.{whole_left, whole_turned, whole_closed}
+use Rattle.shell.specs.declared.Numbered.{Numbered}
+use Rattle.shell.specs.declared.Coded.{Coded}
+use Rattle.shell.specs.Scheduler.{close_answer, LeaveCall, leave_call, TurnCall, turn_call, CloseCall, close_call, LeaveIn, leave_in, turn_code, TurnIn, turn_in, CloseIn, close_in}
 use Rattle.shell.proofs.Laws.{feed_count_lem, close_count}
 
 -- what holds of both holds of the one picked
@@ -73,47 +76,53 @@ pub small_of : (t : Table) (s : Summary) (i : ℕ) (h x o : List ℕ) {k : Closi
     → ◌≡◌ {A = Ending} (record { done = k; scratch = xl; out = ol }) (close_work t s i h x o) → k.count ≤ 4095
 small_of t s i h x o e = subst (λ (v : Ending). v.done.count ≤ 4095) (sym e) (close_small t s i h x o)
 
--- ---- the calls over the whole list, with the table that the bytes hold
-module _ (rs : List Record) {s : Summary} (es : s ≡ summary_of rs) where
-  -- where nothing changes the list stays
-  pub stays : rs ≡ applied rs (unchanged s.count)
-  unfolding summary_of
-  stays = sym (unchanged_is rs) ∙ ap (λ (y : Summary). applied rs (unchanged y.count)) (sym es)
+-- ---- the work with the table that the bytes hold
+pub left_in : (s : Summary) (i : ℕ) (block w : List ℕ) {t u : Table} {k : Leaving} {n : ℕ} {d : Change} {wl : List ℕ} → t ≡ u
+    → ◌≡◌ {A = Stored} (record { done = k; waiting = wl }) (leave_work t s i block w) → n ≡ k.number → d ≡ k.change
+    → ◌≡◌ {A = LeaveIn} (record { done = record { number = n; change = d }; waiting = wl }) (leave_in (leave_work u s i block w))
+left_in s i block w {wl = wl} e q p c =
+    ap₂ (λ (m : ℕ) (y : Change). record { done = record { number = m; change = y }; waiting = wl }) p c
+    ∙ ap leave_in q ∙ ap (λ (y : Table). leave_in (leave_work y s i block w)) e
 
-  module _ {t u : Table} (et : t ≡ u) where
-    pub left_called : (i : ℕ) (block w : List ℕ) {k : Leaving} {n : ℕ} {zs : List Record} {wl : List ℕ}
-        → ◌≡◌ {A = Stored} (record { done = k; waiting = wl }) (leave_work t s i block w) → n ≡ k.number → zs ≡ applied rs k.change
-        → ◌≡◌ {A = LeaveCall} (record { answer = n; records = zs; waiting = wl }) (leave_call (leave_effect u rs i block w))
-    left_called i block w {wl = wl} ek en ez =
-        ap₂ (λ (n : ℕ) (ys : List Record). record { answer = n; records = ys; waiting = wl }) en ez
-        ∙ ap (λ (z : Stored). record { answer = z.done.number; records = applied rs z.done.change; waiting = z.waiting })
-        (ek ∙ ap₂ (λ (x : Table) (y : Summary). leave_work x y i block w) et es)
-        ∙ ap leave_call (whole_left u rs i block w)
+pub turned_in : (s : Summary) (from : ℕ) (h w x o : List ℕ) {t u : Table} {k : Turning} {n : ℕ} {d : Change} {hl xl ol : List ℕ} → t ≡ u
+    → ◌≡◌ {A = Serving} (record { done = k; history = hl; scratch = xl; out = ol }) (turn_work t s from h w x o) → n ≡ turn_code k → d ≡ k.change
+    → ◌≡◌ {A = TurnIn} (record { done = record { code = n; change = d }; history = hl; scratch = xl; out = ol }) (turn_in (turn_work u s from h w x o))
+turned_in s from h w x o {hl = hl} {xl = xl} {ol = ol} e q p c =
+    ap₂ (λ (m : ℕ) (y : Change). record { done = record { code = m; change = y }; history = hl; scratch = xl; out = ol }) p c
+    ∙ ap turn_in q ∙ ap (λ (y : Table). turn_in (turn_work y s from h w x o)) e
 
-    pub turned_called : (from : ℕ) (h w x o : List ℕ) {k : Turning} {n : ℕ} {zs : List Record} {hl xl ol : List ℕ}
-        → ◌≡◌ {A = Serving} (record { done = k; history = hl; scratch = xl; out = ol }) (turn_work t s from h w x o)
-        → n ≡ turn_answer k.number k.served k.place k.count → zs ≡ applied rs k.change
-        → ◌≡◌ {A = TurnCall} (record { answer = n; records = zs; history = hl; scratch = xl; out = ol }) (turn_call (turn_effect u rs from h w x o))
-    turned_called from h w x o {hl = hl} {xl = xl} {ol = ol} ek en ez =
-        ap₂ (λ (n : ℕ) (ys : List Record). record { answer = n; records = ys; history = hl; scratch = xl; out = ol }) en ez
-        ∙ ap (λ (z : Serving). record {
-          answer = turn_answer z.done.number z.done.served z.done.place z.done.count;
-          records = applied rs z.done.change;
-          history = z.history;
-          scratch = z.scratch;
-          out = z.out;
-        }) (ek ∙ ap₂ (λ (v : Table) (y : Summary). turn_work v y from h w x o) et es)
-        ∙ ap turn_call (whole_turned u rs from h w x o)
+pub closed_in_lem : (s : Summary) (i : ℕ) (h x o : List ℕ) {t u : Table} {k : Closing} {n : ℕ} {d : Change} {xl ol : List ℕ} → t ≡ u
+    → ◌≡◌ {A = Ending} (record { done = k; scratch = xl; out = ol }) (close_work t s i h x o) → n ≡ close_answer k.number k.count → d ≡ k.change
+    → ◌≡◌ {A = CloseIn} (record { done = record { code = n; change = d }; scratch = xl; out = ol }) (close_in (close_work u s i h x o))
+closed_in_lem s i h x o {xl = xl} {ol = ol} e q p c =
+    ap₂ (λ (m : ℕ) (y : Change). record { done = record { code = m; change = y }; scratch = xl; out = ol }) p c
+    ∙ ap close_in q ∙ ap (λ (y : Table). close_in (close_work y s i h x o)) e
 
-    pub closed_called : (i : ℕ) (h x o : List ℕ) {k : Closing} {n : ℕ} {zs : List Record} {xl ol : List ℕ}
-        → ◌≡◌ {A = Ending} (record { done = k; scratch = xl; out = ol }) (close_work t s i h x o) → n ≡ close_answer k.number k.count → zs ≡ applied rs k.change
-        → ◌≡◌ {A = CloseCall} (record { answer = n; records = zs; scratch = xl; out = ol }) (close_call (close_effect u rs i h x o))
-    closed_called i h x o {xl = xl} {ol = ol} ek en ez =
-        ap₂ (λ (n : ℕ) (ys : List Record). record { answer = n; records = ys; scratch = xl; out = ol }) en ez
-        ∙ ap (λ (z : Ending). record {
-          answer = close_answer z.done.number z.done.count;
-          records = applied rs z.done.change;
-          scratch = z.scratch;
-          out = z.out;
-        }) (ek ∙ ap₂ (λ (v : Table) (y : Summary). close_work v y i h x o) et es)
-        ∙ ap close_call (whole_closed u rs i h x o)
+-- ---- the calls over the whole list
+module _ (t : Table) (rs : List Record) {s : Summary} (es : s ≡ summary_of rs) where
+  pub left_called : (i : ℕ) (block w : List ℕ) (k : Numbered) {zs : List Record} {wl : List ℕ}
+      → ◌≡◌ {A = LeaveIn} (record { done = k; waiting = wl }) (leave_in (leave_work t s i block w)) → zs ≡ applied rs k.change
+      → ◌≡◌ {A = LeaveCall} (record { answer = k.number; records = zs; waiting = wl }) (leave_call (leave_effect t rs i block w))
+  left_called i block w k {wl = wl} ek ez =
+      ap (λ (ys : List Record). record { answer = k.number; records = ys; waiting = wl }) ez
+      ∙ ap (λ (z : LeaveIn). record { answer = z.done.number; records = applied rs z.done.change; waiting = z.waiting })
+      (ek ∙ ap (λ (y : Summary). leave_in (leave_work t y i block w)) es)
+      ∙ ap leave_call (whole_left t rs i block w)
+
+  pub turned_called : (from : ℕ) (h w x o : List ℕ) (k : Coded) {zs : List Record} {hl xl ol : List ℕ}
+      → ◌≡◌ {A = TurnIn} (record { done = k; history = hl; scratch = xl; out = ol }) (turn_in (turn_work t s from h w x o)) → zs ≡ applied rs k.change
+      → ◌≡◌ {A = TurnCall} (record { answer = k.code; records = zs; history = hl; scratch = xl; out = ol }) (turn_call (turn_effect t rs from h w x o))
+  turned_called from h w x o k {hl = hl} {xl = xl} {ol = ol} ek ez =
+      ap (λ (ys : List Record). record { answer = k.code; records = ys; history = hl; scratch = xl; out = ol }) ez
+      ∙ ap (λ (z : TurnIn). record { answer = z.done.code; records = applied rs z.done.change; history = z.history; scratch = z.scratch; out = z.out })
+      (ek ∙ ap (λ (y : Summary). turn_in (turn_work t y from h w x o)) es)
+      ∙ ap turn_call (whole_turned t rs from h w x o)
+
+  pub closed_called : (i : ℕ) (h x o : List ℕ) (k : Coded) {zs : List Record} {xl ol : List ℕ}
+      → ◌≡◌ {A = CloseIn} (record { done = k; scratch = xl; out = ol }) (close_in (close_work t s i h x o)) → zs ≡ applied rs k.change
+      → ◌≡◌ {A = CloseCall} (record { answer = k.code; records = zs; scratch = xl; out = ol }) (close_call (close_effect t rs i h x o))
+  closed_called i h x o k {xl = xl} {ol = ol} ek ez =
+      ap (λ (ys : List Record). record { answer = k.code; records = ys; scratch = xl; out = ol }) ez
+      ∙ ap (λ (z : CloseIn). record { answer = z.done.code; records = applied rs z.done.change; scratch = z.scratch; out = z.out })
+      (ek ∙ ap (λ (y : Summary). close_in (close_work t y i h x o)) es)
+      ∙ ap close_call (whole_closed t rs i h x o)

@@ -1,5 +1,5 @@
 -- The answers of the C interface as one number each, and what its calls leave in the bytes of tables and sessions.
-use Rattle.std.specs.Prelude.{ℕ, ◌+◌, ◌*◌, min, ◌≡◌, List, [], ◌∷◌, eqb}
+use Rattle.std.specs.Prelude.{ℕ, ◌+◌, ◌*◌, min, ◌≡◌, List, [], ◌∷◌, eqb, Option, Result, Ok, Err}
 use Rattle.lists.specs.Choice.{pick}
 use Rattle.interval.specs.Parts.{Splitting}
 use Rattle.interval.specs.Doubling.{Doubling}
@@ -11,9 +11,12 @@ use Rattle.flat.specs.Sessions.{session_written}
 use Rattle.simplify.specs.Promise.{Simplified, PromisedBy}
 use Rattle.mltl.specs.Mltl.{Formula, delay}
 use Rattle.mltl.specs.Known.{Value, no, undecided, yes}
-use Rattle.early.specs.Early.{Told, refused, value}
-use Rattle.reach.specs.Reach.{Reached, refused as not-reached, empty, ticks}
+use Rattle.early.specs.declared.Decision.{Decision}
+use Rattle.early.specs.Early.{Told, refused, value, decided}
+use Rattle.reach.specs.declared.Ticks.{Ticks}
+use Rattle.reach.specs.Reach.{Reached, refused as not-reached, empty, ticks, range_told}
 use Rattle.registers.specs.Registers.{Reading}
+use Rattle.session.specs.declared.Session.{Session}
 use Rattle.session.specs.Session.{Step, Answer, Opening, Effect}
 
 -- a buffer after a call with this number: what an accepted call writes there, and as it was where the call is refused
@@ -77,6 +80,26 @@ abbrev pub range_after : Reached → List ℕ → List ℕ
 range_after (not-reached number) words = words
 range_after empty words = words
 range_after (ticks first last) words = first ∷ last ∷ []
+
+-- ---- what an answer tells whose refusals have the numbers that n gives. With the numbers of refusals, `told_by`, `reached_by` and `stored` say
+-- the same (proofs/Said)
+-- 0 for an accepted call
+abbrev pub number_said : {A E : Type 0} → (E → ℕ) → Result A E → ℕ
+number_said n (Ok x) = 0
+number_said n (Err e) = n e
+
+abbrev pub early_said : {E : Type 0} → (E → ℕ) → Result Decision E → Told
+early_said n (Ok d) = value (decided d)
+early_said n (Err e) = refused (n e)
+
+abbrev pub reach_said : {E : Type 0} → (E → ℕ) → Result (Option Ticks) E → Reached
+reach_said n (Ok r) = range_told r
+reach_said n (Err e) = not-reached (n e)
+
+-- the bytes of a session after an answer: a refused call, whatever its number, leaves them as they were
+abbrev pub stored_by : {E : Type 0} → Result Session E → List ℕ → List ℕ
+stored_by (Ok s) b = session_written s b
+stored_by (Err e) b = b
 
 -- the bytes of a table after the simplifier: its answer is free but for what is promised of it, by a measure of how many states a verdict waits for
 pub record SimplifiesBy (wait : Formula → ℕ) (before : List ℕ) (number : ℕ) (after : List ℕ) : Type 0 where

@@ -24,6 +24,17 @@ pub trait Measure: Copy {
     fn at_node(self, n: Node, a: u16, b: u16) -> u32
         ensures { result ≡ step_at (step self) n a b };
 
+    // The same over the measures of the nodes before a place.
+    fn over(self, ms: &[u16; MAX_NODES], place: usize, n: Node) -> u32
+        ensures { result ≡ step_over (step self) (take place ms.now) n }
+    {
+        self.at_node(
+            n,
+            measure_at(ms, place, n.left),
+            measure_at(ms, place, n.right),
+        )
+    }
+
     // What each measure must prove.
     ghost laws: { (m : Self) → MeasureLaws (of m) (step m) };
 }
@@ -53,6 +64,18 @@ impl Measure for Delay {
             _ => 0,
         }
     }
+
+    // A node without operands waits for nothing: none is looked up.
+    fn over(self, ms: &[u16; MAX_NODES], place: usize, n: Node) -> u32 {
+        match Operator::try_from(n.kind) {
+            Ok(Operator::Signal | Operator::True | Operator::False) | Err(_) => 0,
+            Ok(_) => self.at_node(
+                n,
+                measure_at(ms, place, n.left),
+                measure_at(ms, place, n.right),
+            ),
+        }
+    }
 }
 
 // What the left operand of U or R, whose delay is a, makes it wait beyond hi: all of it where it is read up to hi, else one state less, or none
@@ -71,22 +94,17 @@ fn left_delay(whole: bool, n: Node, a: u16) -> u16
 
 // The measure at a place before `place`, and 0 for any other.
 pub fn measure_at(ms: &[u16; MAX_NODES], place: usize, at: u8) -> u16
-    requires { place ≤ max_nodes }
     ensures { result ≡ get_or (take place ms.now) at 0 }
 {
     let k = at as usize;
-    if k < place { ms[k] } else { 0 }
+    if k < place.min(MAX_NODES) { ms[k] } else { 0 }
 }
 
 // The measure of the node n at a place, capped, by those before it.
 pub(crate) fn measure_from<M: Measure>(m: M, ms: &[u16; MAX_NODES], place: usize, n: Node) -> u16
-    requires { place ≤ max_nodes }
     ensures { result ≡ cap (step_over (M.step m) (take place ms.now) n) }
 {
-    let a = measure_at(ms, place, n.left);
-    let b = measure_at(ms, place, n.right);
-    let whole = m.at_node(n, a, b);
-    whole.min(OVERLONG as u32) as u16
+    m.over(ms, place, n).min(OVERLONG as u32) as u16
 }
 
 // The measures of all nodes, capped.

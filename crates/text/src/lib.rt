@@ -4,12 +4,12 @@
 ghost use Rattle.std.specs.Prelude.{◌≡◌, ◌+◌, ◌-◌, ◌≤◌, ◌<◌, min, length};
 ghost use Rattle.builder.specs.Built.{Delays};
 ghost use Rattle.grammar.specs.Tape.{kept_nodes};
-ghost use Rattle.text.specs.Code.{LineAdded};
+ghost use Rattle.text.specs.Code.{LineTold, LineAdded};
 ghost use Rattle.text.specs.Typing.{in_byte, in_two_bytes, node_of, name_held, watching, line_added, Placed, typed_told, typed, made_at, mades_of};
 
 use grammar::{Item, Made};
 use limits::MAX_NODES;
-use parser::TAPE_WORDS;
+use parser::{Lined, TAPE_WORDS};
 use refusals::Refusal;
 use table::{Node, Rule, Table};
 
@@ -148,6 +148,13 @@ fn add_line(
     Ok(u)
 }
 
+// The line at a place of the text, its nodes on the tape.
+fn line_at(text: &[u8], cells: &mut [u32; TAPE_WORDS], at: usize) -> Result<Lined, Fault>
+    ensures { LineTold text.now at cells.old result cells.new }
+{
+    Ok(parser::line(text, cells, at)?)
+}
+
 // The table of a text that is accepted.
 pub fn read(text: &[u8]) -> Result<Table, Fault>
     ensures { typed_told result ≡ typed text.now }
@@ -165,7 +172,7 @@ pub fn read(text: &[u8]) -> Result<Table, Fault>
     let mut line: usize = 1;
     // How long a line is, its reader tells.
     while i < text.len() {
-        let l = parser::line(text, &mut cells, i)?;
+        let l = line_at(text, &mut cells, i)?;
         t = match add_line(t, &mut ds, &cells, l.count as usize, l.name) {
             Ok(u) => u,
             Err(refusal) => {

@@ -101,7 +101,7 @@ module _ {W : ℕ → ℕ → ℕ → (ℕ → Bool) → (ℕ → Bool) → ℕ 
         let k = h.apart in
         part_pair (λ x y. bit_at y) second d (length s - d) m s {i = e} {j = d} fit (omega (arith, long)) (omega (arith, long)) (omega arith) (omega arith) p
 
-    turn_length : length t ≡ length s₀
+    pub turn_length : length t ≡ length s₀
     turn_length = laid_length (omega (arith, long, fits)) copied ∙ long
 
     left : bit_at (register e m t) ≡ f

@@ -97,7 +97,7 @@ prefixed-returns-in_default t c =
 pub prefixed-loop-item-preserved : goal.prefixed-loop-item-preserved
 prefixed-loop-item-preserved t c =
     let l = c.loop-item.invariant in
-    (l.0, prefs_more _ l.1 (rw c.in-Some.is at c.in_ok-item.ensures) refl refl c.hold.ensures)
+    (l.0, prefs_more _ _ l.1 (rw c.in-Some.is at c.in_ok-item.ensures) refl refl c.hold.ensures)
 
 -- ---- unary
 pub unary-returns : goal.unary-returns

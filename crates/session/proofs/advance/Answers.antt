@@ -4,9 +4,9 @@ use Rattle.session.proofs.advance.Goals as goal
 
 pub write_verdicts-requires : goal.write_verdicts-requires
 write_verdicts-requires c =
-    feed_writes c.requires c.min-h.ensures c.saturating_sub.ensures c.saturating_sub-2.ensures (lent_part c.min-h.result c.args.history.now)
+    feed_writes c.requires c.held-h.ensures c.settled.ensures c.settled-2.ensures (lent_part c.held-h.result c.args.history.now)
 
 pub returns : goal.returns
 returns c =
-    feed_is c.requires c.min-h.ensures c.saturating_sub.ensures c.saturating_sub-2.ensures c.min.ensures (lent_part c.min-h.result c.args.history.now)
+    feed_is c.requires c.held-h.ensures c.settled.ensures c.settled-2.ensures c.held.ensures (lent_part c.held-h.result c.args.history.now)
     c.write_verdicts.ensures c.keep.ensures

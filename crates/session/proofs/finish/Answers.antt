@@ -17,13 +17,13 @@ pub slice_bounds-write_verdicts-end : goal.slice_bounds-write_verdicts-end
 slice_bounds-write_verdicts-end c =
     let f = c.requires.fit in
     let w : 4095 ≤ length c.args.history.now = f.history_fits in
-    let k : c.min-count.result ≤ length c.args.history.now = omega (arith, kept_short f c.min-count.ensures) in
+    let k : c.held-count.result ≤ length c.args.history.now = omega (arith, kept_short f c.held-count.ensures) in
     search rules
 
 pub write_verdicts-requires : goal.write_verdicts-requires
 write_verdicts-requires c =
-    close_writes c.requires c.min-count.ensures (lent_part c.min-count.result c.args.history.now) refl
+    close_writes c.requires c.held-count.ensures (lent_part c.held-count.result c.args.history.now) refl
 
 pub returns : goal.returns
 returns c =
-    close_is c.requires c.min-count.ensures (lent_part c.min-count.result c.args.history.now) refl c.write_verdicts.ensures
+    close_is c.requires c.held-count.ensures (lent_part c.held-count.result c.args.history.now) refl c.write_verdicts.ensures

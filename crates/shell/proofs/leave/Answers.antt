@@ -1,15 +1,10 @@
 -- The work on the list is what the call does to it. Assumes nothing.
-use mathlib.Core.Path.{refl}
-use Rattle.shell.proofs.Scheduler.{stays, left_called}
+use Rattle.flat.specs.Flat.{table_from}
+use Rattle.shell.proofs.Scheduler.{left_called}
 use Rattle.shell.proofs.leave.Goals as goal
 
-pub returns-in-Ok : goal.returns-in-Ok
-returns-in-Ok c =
+pub returns : goal.returns
+returns c =
     let a = c.args in
-    left_called a.list.now c.scan-s.ensures c.read_table-t.ensures a.place a.block.now a.waiting.now c.in-Ok.ensures refl c.apply.ensures
-
-pub returns-in-Err : goal.returns-in-Err
-returns-in-Err c =
-    let a = c.args in
-    left_called a.list.now c.scan-s.ensures c.read_table-t.ensures a.place a.block.now a.waiting.now c.in-Err.ensures c.number.ensures
-    (stays a.list.now c.scan-s.ensures)
+    let k = c.leave_by-k in
+    left_called (table_from a.table.now) a.list.now c.scan-s.ensures a.place a.block.now a.waiting.now k.result k.ensures c.apply.ensures

@@ -1,32 +1,11 @@
--- The work on the list is what the call does to it; the place and the count are small. Assumes nothing.
-use native.Mathlib.Omega.{arith}
-use mathlib.Core.Path.{refl}
-use Rattle.shell.proofs.Scheduler.{told_of_lem, stays, turned_called}
+-- The work on the list is what the call does to it. Assumes nothing.
+use Rattle.flat.specs.Flat.{table_from}
+use Rattle.shell.proofs.Scheduler.{turned_called}
 use Rattle.shell.proofs.turn.Goals as goal
 
-pub turn_code-requires : goal.turn_code-requires
-turn_code-requires c =
+pub returns : goal.returns
+returns c =
     let a = c.args in
-    let e = rw c.in-Ok-Some.field-0-is at c.in-Ok-Some.ensures in
-    let k = told_of_lem c.read_table-t.result c.scan-s.result a.place a.history.now a.waiting.now a.scratch.now a.out.now e in
-    (k.place refl, omega (arith, k.count))
-
-pub returns-in-Ok-Some : goal.returns-in-Ok-Some
-returns-in-Ok-Some c =
-    let a = c.args in
-    let e = rw c.in-Ok-Some.field-0-is at c.in-Ok-Some.ensures in
-    turned_called a.list.now c.scan-s.ensures c.read_table-t.ensures a.place a.history.now a.waiting.now a.scratch.now a.out.now e
-    c.turn_code.ensures c.apply.ensures
-
-pub returns-in-Ok-None : goal.returns-in-Ok-None
-returns-in-Ok-None c =
-    let a = c.args in
-    let e = rw c.in-Ok-None.field-0-is at c.in-Ok-None.ensures in
-    turned_called a.list.now c.scan-s.ensures c.read_table-t.ensures a.place a.history.now a.waiting.now a.scratch.now a.out.now e refl
-    (stays a.list.now c.scan-s.ensures)
-
-pub returns-in-Err : goal.returns-in-Err
-returns-in-Err c =
-    let a = c.args in
-    turned_called a.list.now c.scan-s.ensures c.read_table-t.ensures a.place a.history.now a.waiting.now a.scratch.now a.out.now
-    c.in-Err.ensures (omega (arith, c.number.ensures)) (stays a.list.now c.scan-s.ensures)
+    let k = c.turn_by-k in
+    turned_called (table_from a.table.now) a.list.now c.scan-s.ensures a.place a.history.now a.waiting.now a.scratch.now a.out.now k.result
+    k.ensures c.apply.ensures

@@ -5,7 +5,6 @@ use borrow.Author.Rules.{rules}
 use borrow.Author.Tests.{eqb-true, eqb-false}
 use Rattle.std.specs.Prelude.{Err}
 use Rattle.refusals.proofs.Positive.{refusal_above}
-use Rattle.parser.proofs.Leaves.{faulty}
 use Rattle.text.specs.Typing.{refused}
 use native.Mathlib.Omega.{arith}
 use lib.ListN.{replicate}
@@ -26,8 +25,8 @@ loop-i-init c =
 pub returns-in_err-l : goal.returns-in_err-l
 returns-in_err-l c =
     let f = c.in_err-l.field-0.0 in
-    let r : c.from_residual.result ≡ Err (record { refusal = f.refusal; place = f.at }) = search rules in
-    rw r (read_fault c.args.text.now c.loop-i.invariant.4 c.loop-i-test.true c.in_err-l.ensures (faulty f) refl)
+    let r : c.from_residual.result ≡ Err f = search rules in
+    rw r (read_fault c.args.text.now c.loop-i.invariant.4 c.loop-i-test.true c.in_err-l.ensures (refusal_above f.refusal) refl)
 
 pub add_line-requires : goal.add_line-requires
 add_line-requires c =

@@ -1,12 +1,13 @@
 -- What the tests and the callees tell, put together. Assumes nothing.
 use Rattle.parser.proofs.Readers.{prefix_not, prefix_window, prefix_none}
-use mathlib.Core.Path.{refl}
+use mathlib.Core.Path.{refl, ap}
+use Rattle.parser.specs.Code.{prefix_item}
 use Rattle.grammar.specs.Tape.{tapes}
 use Rattle.grammar.proofs.Steps.{start_finally, start_globally}
 use Rattle.parser.proofs.tokens.prefix.Goals as goal
 
 pub returns-then-is_at : goal.returns-then-is_at
-returns-then-is_at c = prefix_not _ c.skip-i.ensures (c.is_at.ensures.inside c.if-is_at.true) (c.is_at.ensures.byte c.if-is_at.true) (rw c.kind.ensures at c.new.ensures)
+returns-then-is_at c = prefix_not _ c.skip-i.ensures (c.is_at.ensures.inside c.if-is_at.true) (c.is_at.ensures.byte c.if-is_at.true) (ap prefix_item c.new.ensures)
 
 pub returns-then-is_at-2 : goal.returns-then-is_at-2
 returns-then-is_at-2 c =
